@@ -1,0 +1,4 @@
+pub mod Pick
+pub mod Span
+pub mod Fold
+pub mod Pigeon
