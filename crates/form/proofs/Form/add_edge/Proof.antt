@@ -1,0 +1,43 @@
+use borrow.Author.Tests.{le-ltb, lt-ltb}
+use Rattle.lists.specs.Pick.{pick}
+use Rattle.form.specs.Adding.{addedTo, edgeAdded}
+use borrow.Author.Needs.{needs}
+use Rattle.form.proofs.Form.add_edge.Statement.{statement}
+use Rattle.form.proofs.Form.add_edge.Tie as tie
+use Rattle.form.proofs.Form.add_edge.Reads as reads
+use Rattle.form.proofs.Form.add_edge.Lts as lts
+
+returns : tie.Need-returns
+unfolding edgeAdded addedTo pick
+returns c = simp (le-ltb _ _ (c .if1 .taken))
+
+cast-at : tie.Need-cast-at
+cast-at c = search needs
+
+element-write-self : tie.Need-element-write-self
+element-write-self c = search needs
+
+element-write-self-2 : tie.Need-element-write-self-2
+element-write-self-2 c = search needs
+
+element-write-self-3 : tie.Need-element-write-self-3
+element-write-self-3 c = search needs
+
+add-self : tie.Need-add-self
+add-self c = search needs
+
+returns-2 : tie.Need-returns-2
+unfolding edgeAdded addedTo pick
+returns-2 c = simp (lt-ltb _ _ (c .if1 .left))
+
+pub add-edge-spec : {M : Type 1} → statement M
+add-edge-spec =
+    tie.close
+    (tie.spec
+    returns
+    cast-at
+    element-write-self
+    element-write-self-2
+    element-write-self-3
+    add-self
+    returns-2)

@@ -1,0 +1,32 @@
+use borrow.Author.Tests.{le-ltb, lt-ltb}
+use Rattle.lists.specs.Pick.{pick}
+use Rattle.form.specs.Adding.{addedTo, nodeAdded}
+use borrow.Author.Needs.{needs}
+use Rattle.form.proofs.Form.add_node.Statement.{statement}
+use Rattle.form.proofs.Form.add_node.Tie as tie
+use Rattle.form.proofs.Form.add_node.Reads as reads
+use Rattle.form.proofs.Form.add_node.Lts as lts
+
+returns : tie.Need-returns
+unfolding nodeAdded addedTo pick
+returns c = simp (le-ltb _ _ (c .if1 .taken))
+
+cast-at : tie.Need-cast-at
+cast-at c = search needs
+
+mul-node : tie.Need-mul-node
+mul-node c = search needs
+
+element-set-from-node : tie.Need-element-set-from-node
+element-set-from-node c = search needs
+
+add-self : tie.Need-add-self
+add-self c = search needs
+
+returns-2 : tie.Need-returns-2
+unfolding nodeAdded addedTo pick
+returns-2 c = simp (lt-ltb _ _ (c .if1 .left))
+
+pub add-node-spec : {M : Type 1} → statement M
+add-node-spec =
+    tie.close (tie.spec returns cast-at mul-node element-set-from-node add-self returns-2)
