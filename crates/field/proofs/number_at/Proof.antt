@@ -1,3 +1,8 @@
+use mathlib.Core.Path.{_≡_, refl}
+use Prim.Native.Nat.{ℕ, suc, _≤_, _+_, _-_}
+use native.Mathlib.Omega.{arith}
+use borrow.Author.Needs.{needs}
+use Rattle.field.specs.Number.{numberAt, number-small, number-more}
 use Rattle.field.proofs.number_at.Statement.{statement}
 use Rattle.field.proofs.number_at.Tie as tie
 use Rattle.field.proofs.number_at.Reads as reads
@@ -5,50 +10,50 @@ use Rattle.field.proofs.number_at.Lts as lts
 use Rattle.field.proofs.wide.Reads as wide-reads
 
 abbrev Inv-loop : tie.InvT-loop
-Inv-loop s at width value₀ left₀ value left = ?
+Inv-loop s at width value₀ left₀ value left = (left ≤ width) × (value ≡ numberAt (width - left) s (at + left))
 
 abbrev μ-loop : tie.MeasureT-loop
-μ-loop s at width value₀ left₀ value left = ?
+μ-loop s at width value₀ left₀ value left = left
 
--- src/lib.rt:47:5
 loop-holds : tie.Need-loop-holds Inv-loop μ-loop
-loop-holds c = ?
+unfolding numberAt
+loop-holds c = (search needs, let z : c .before .args .width - c .before .args .width ≡ 0 = omega arith in rw (z, numberAt))
 
--- src/lib.rt:48:9
 sub-left : tie.Need-sub-left Inv-loop μ-loop
-sub-left c = ?
+sub-left c = search needs
 
--- src/lib.rt:49:17
 mul-value : tie.Need-mul-value Inv-loop μ-loop
-mul-value c = ?
+mul-value c =
+    omega (arith, number-small (c .before .before .before .args .s .now) (λ i. c .before .before .shared-slice-known .given i .fits) (c .before .before .before .args .width - c .before .loop .left) 3 (c .before .before .before .args .at + c .before .loop .left) (omega arith))
 
--- src/lib.rt:49:38
 add-wide : tie.Need-add-wide Inv-loop μ-loop
-add-wide c = ?
+add-wide c = search needs
 
--- src/lib.rt:49:36
 shared-slice-read-wide : tie.Need-shared-slice-read-wide Inv-loop μ-loop
-shared-slice-read-wide c = ?
+shared-slice-read-wide c = search needs
 
--- src/lib.rt:49:31
 wide-requires : tie.Need-wide-requires Inv-loop μ-loop
-wide-requires c κs = ?
+wide-requires c κs = search needs
 
--- src/lib.rt:49:17
 add-value : tie.Need-add-value Inv-loop μ-loop
-add-value c = ?
+add-value c =
+    let b = c .before .before .before in
+    omega (arith, number-small (b .before .before .args .s .now) (λ i. b .before .shared-slice-known .given i .fits) (b .before .before .args .width - b .loop .left) 3 (b .before .before .args .at + b .loop .left) (omega arith))
 
--- src/lib.rt:47:5
 loop-less : tie.Need-loop-less Inv-loop μ-loop
-loop-less c = ?
+loop-less c = search needs
 
--- src/lib.rt:47:5
 loop-again : tie.Need-loop-again Inv-loop μ-loop
-loop-again c = ?
+loop-again c =
+    let b = c .before .before .before in
+    (search needs, number-more (b .before .before .args .s .now) (b .before .before .args .width) (b .loop .left) (b .before .before .args .at) (b .loop .value) (c .wide .result) (omega arith) (omega arith) (b .loop .inv .1) (c .wide .ensures .0))
 
--- src/lib.rt:41:1
 returns : tie.Need-returns Inv-loop μ-loop
-returns c = ?
+returns c =
+    let z : c .before .loop .left ≡ 0 = omega arith in
+    let w : c .before .before .before .args .width - c .before .loop .left ≡ c .before .before .before .args .width = omega arith in
+    let a : c .before .before .before .args .at + c .before .loop .left ≡ c .before .before .before .args .at = omega arith in
+    rw (w, a) at (c .before .loop .inv .1)
 
 pub number-at-spec : {M : Type 1} → statement M
 number-at-spec =

@@ -1,72 +1,58 @@
+use mathlib.Core.Path.{sym, ap}
+use Rattle.field.specs.Taking.{wrongAt}
 use borrow.Author.Needs.{needs}
 use Rattle.field.proofs.wrong_at.Statement.{statement}
 use Rattle.field.proofs.wrong_at.Tie as tie
 use Rattle.field.proofs.wrong_at.Reads as reads
 use Rattle.field.proofs.wrong_at.Lts as lts
 
--- src/lib.rt:59:23
 enum-told : tie.Need-enum-told
 enum-told c = search needs
 
--- src/lib.rt:60:26
 enum-told-2 : tie.Need-enum-told-2
 enum-told-2 c = search needs
 
--- src/lib.rt:61:24
 enum-told-3 : tie.Need-enum-told-3
 enum-told-3 c = search needs
 
--- src/lib.rt:62:26
 enum-told-4 : tie.Need-enum-told-4
 enum-told-4 c = search needs
 
--- src/lib.rt:63:23
 enum-told-5 : tie.Need-enum-told-5
 enum-told-5 c = search needs
 
--- src/lib.rt:64:23
 enum-told-6 : tie.Need-enum-told-6
 enum-told-6 c = search needs
 
--- src/lib.rt:65:24
 enum-told-7 : tie.Need-enum-told-7
 enum-told-7 c = search needs
 
--- src/lib.rt:66:27
 enum-told-8 : tie.Need-enum-told-8
 enum-told-8 c = search needs
 
--- src/lib.rt:55:1
 returns : tie.Need-returns
-returns c = ?
+returns c = sym (ap (λ k. wrongAt k (c .before .before .args .at)) (c .enum-told .given .1))
 
--- src/lib.rt:55:1
 returns-2 : tie.Need-returns-2
-returns-2 c = ?
+returns-2 c = sym (ap (λ k. wrongAt k (c .before .before .args .at)) (c .enum-told2 .given .1))
 
--- src/lib.rt:55:1
 returns-3 : tie.Need-returns-3
-returns-3 c = ?
+returns-3 c = sym (ap (λ k. wrongAt k (c .before .before .args .at)) (c .enum-told3 .given .1))
 
--- src/lib.rt:55:1
 returns-4 : tie.Need-returns-4
-returns-4 c = ?
+returns-4 c = sym (ap (λ k. wrongAt k (c .before .before .args .at)) (c .enum-told4 .given .1))
 
--- src/lib.rt:55:1
 returns-5 : tie.Need-returns-5
-returns-5 c = ?
+returns-5 c = sym (ap (λ k. wrongAt k (c .before .before .args .at)) (c .enum-told5 .given .1))
 
--- src/lib.rt:55:1
 returns-6 : tie.Need-returns-6
-returns-6 c = ?
+returns-6 c = sym (ap (λ k. wrongAt k (c .before .before .args .at)) (c .enum-told6 .given .1))
 
--- src/lib.rt:55:1
 returns-7 : tie.Need-returns-7
-returns-7 c = ?
+returns-7 c = sym (ap (λ k. wrongAt k (c .before .before .args .at)) (c .enum-told7 .given .1))
 
--- src/lib.rt:55:1
 returns-8 : tie.Need-returns-8
-returns-8 c = ?
+returns-8 c = sym (ap (λ k. wrongAt k (c .before .before .args .at)) (c .enum-told8 .given .1))
 
 pub wrong-at-spec : {M : Type 1} → statement M
 wrong-at-spec =
