@@ -137,9 +137,12 @@ withStart f v s r = record {
 unfoldable pub firstOf {ℓ} : {A : Type ℓ} → ℕ → A → List A → List A
 firstOf n d xs = take n xs ++ replicate (length xs - n) d
 
--- how many starts and retimings are in use
-unfoldable pub scheduled : Form → ℕ
-scheduled f = pick (eqb (f .length) 0) 0 (f .nodes)
+-- how many starts and retimings are in use, of a length and so many nodes
+unfoldable pub scheduledOf : ℕ → ℕ → ℕ
+scheduledOf l n = pick (eqb l 0) 0 n
+
+abbrev pub scheduled : Form → ℕ
+scheduled f = scheduledOf (f .length) (f .nodes)
 
 -- the used places as they are, the others 0
 unfoldable pub used : Form → Form

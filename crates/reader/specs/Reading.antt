@@ -37,8 +37,8 @@ unfoldable pub someZero : ℕ → List ℕ → Bool
 someZero n rs = zeroFrom n 0 rs
 
 -- there is no schedule, or its smallest retiming is 0
-unfoldable pub normalized : Form → Bool
-normalized f = pick (eqb (f .length) 0) true (someZero (f .nodes) (f .retiming))
+unfoldable pub normalized : ℕ → ℕ → List ℕ → Bool
+normalized l n rs = pick (eqb l 0) true (someZero n rs)
 
 -- the offset of node 0's retiming: 11 bytes of header, the tables, and its start
 unfoldable pub retimingOffset : Form → ℕ
@@ -48,7 +48,7 @@ retimingOffset f = 13 + 3 * f .classes + 6 * f .nodes + 3 * f .edges
 unfoldable pub endOf : List ℕ → Reading → Refusal
 endOf s x =
     pick (fine (x .next .refusal))
-    (pick (normalized (x .form)) (pick (ltb (x .next .at) (length s)) (Tail (x .next .at)) None) (Retiming (retimingOffset (x .form))))
+    (pick (normalized (x .form .length) (x .form .nodes) (x .form .retiming)) (pick (ltb (x .next .at) (length s)) (Tail (x .next .at)) None) (Retiming (retimingOffset (x .form))))
     (x .next .refusal)
 
 -- the form where nothing is refused, else the empty form

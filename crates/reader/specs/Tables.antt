@@ -2,7 +2,7 @@
 -- Assumes nothing.
 use mathlib.Core.Path.{_≡_}
 use mathlib.Core.List.{List}
-use Prim.Native.Nat.{ℕ, zero, suc, _+_, _≤_}
+use Prim.Native.Nat.{ℕ, zero, suc, _+_, _*_, _≤_}
 use Rattle.lists.specs.Pick.{pick}
 use Rattle.answer.specs.Refused.{fine}
 use Rattle.form.specs.Places.{emptyForm, latencyOf, withCounts, withClass, withNode, withEdge, withStart}
@@ -77,11 +77,11 @@ pub record Headed (s : List ℕ) (r : Reading) : Type 0 where
   pub length : r .form .length ≤ 512
   pub near : r .next .at ≤ 11
 
--- a table read: the counts stay, and the cursor moves no further than its room
-pub record Stage (step : ℕ → Reading → Reading) (n : ℕ) (x : Reading) (room : ℕ) (r : Reading) : Type 0 where
+-- a table read, with rows of a width at most: the counts stay, and the cursor moves no further than the rows reach
+pub record Stage (step : ℕ → Reading → Reading) (n : ℕ) (x : Reading) (width : ℕ) (r : Reading) : Type 0 where
   pub is : r ≡ table step n 0 x
   pub classes : r .form .classes ≡ x .form .classes
   pub nodes : r .form .nodes ≡ x .form .nodes
   pub edges : r .form .edges ≡ x .form .edges
   pub length : r .form .length ≡ x .form .length
-  pub near : r .next .at ≤ x .next .at + room
+  pub near : r .next .at ≤ x .next .at + width * n

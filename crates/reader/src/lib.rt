@@ -2,10 +2,10 @@
 ghost use mathlib.Core.Path.{_≡_};
 ghost use Prim.Native.Nat.{_+_, _*_, _-_, _≤_, _<_};
 ghost use lib.ListN.{length, getD};
-ghost use Rattle.form.specs.Places.{noClass};
+ghost use Rattle.form.specs.Places.{noClass, scheduledOf};
 ghost use Rattle.reader.specs.Rows.{ClassRead, NodeRead, EdgeRead, StartRead, operationOf};
 ghost use Rattle.reader.specs.Tables.{Stage, table, classStep, nodeStep, edgeStep, startStep, headerOf, Headed};
-ghost use Rattle.reader.specs.Reading.{someZero, endOf, readForm};
+ghost use Rattle.reader.specs.Reading.{someZero, normalized, endOf, readForm};
 use answer::Refusal;
 use field::Cursor;
 use field::Kind;
@@ -207,7 +207,7 @@ fn header(s: &[u8]) -> Reading
 // The classes' rows.
 fn classes(s: &[u8], reading: Reading) -> Reading
     requires { ⌜ (reading .form .classes ≤ 4) × (reading .next .at ≤ 20000) ⌝ }
-    ensures { λ r. ⌜ Stage (classStep (now (s .entry))) (reading .form .classes) reading 12 r ⌝ }
+    ensures { λ r. ⌜ Stage (classStep (now (s .entry))) (reading .form .classes) reading 3 r ⌝ }
 {
     let mut form = reading.form;
     let mut next = reading.next;
@@ -230,7 +230,7 @@ fn classes(s: &[u8], reading: Reading) -> Reading
 // The nodes' rows.
 fn nodes(s: &[u8], reading: Reading) -> Reading
     requires { ⌜ (reading .form .nodes ≤ 64) × (reading .next .at ≤ 20000) ⌝ }
-    ensures { λ r. ⌜ Stage (nodeStep (now (s .entry))) (reading .form .nodes) reading 384 r ⌝ }
+    ensures { λ r. ⌜ Stage (nodeStep (now (s .entry))) (reading .form .nodes) reading 6 r ⌝ }
 {
     let mut form = reading.form;
     let mut next = reading.next;
@@ -254,7 +254,7 @@ fn nodes(s: &[u8], reading: Reading) -> Reading
 // The edges' rows.
 fn edges(s: &[u8], reading: Reading) -> Reading
     requires { ⌜ (reading .form .edges ≤ 256) × (reading .next .at ≤ 20000) ⌝ }
-    ensures { λ r. ⌜ Stage (edgeStep (now (s .entry))) (reading .form .edges) reading 768 r ⌝ }
+    ensures { λ r. ⌜ Stage (edgeStep (now (s .entry))) (reading .form .edges) reading 3 r ⌝ }
 {
     let mut form = reading.form;
     let mut next = reading.next;
@@ -280,7 +280,7 @@ fn edges(s: &[u8], reading: Reading) -> Reading
 // The starts and retimings, `nodes` of them or none.
 fn starts(s: &[u8], reading: Reading, nodes: usize) -> Reading
     requires { ⌜ (nodes ≤ 64) × (reading .form .length ≤ 512) × (reading .next .at ≤ 20000) ⌝ }
-    ensures { λ r. ⌜ Stage (startStep (now (s .entry))) nodes reading 192 r ⌝ }
+    ensures { λ r. ⌜ Stage (startStep (now (s .entry))) nodes reading 3 r ⌝ }
 {
     let mut form = reading.form;
     let mut next = reading.next;
@@ -320,6 +320,17 @@ fn some_zero(retiming: [u8; 64], nodes: u8) -> bool
     false
 }
 
+// There is no schedule, or one of its retimings is 0.
+fn is_normalized(length: u16, nodes: u8, retiming: [u8; 64]) -> bool
+    requires { ⌜ nodes ≤ 64 ⌝ }
+    ensures { λ b. ⌜ b ≡ normalized length nodes retiming ⌝ }
+{
+    if length == 0 {
+        return true;
+    }
+    some_zero(retiming, nodes)
+}
+
 // After the last field: a schedule has a retiming 0, and no byte is left.
 fn end_of(s: &[u8], reading: Reading) -> Refusal
     requires { ⌜ (reading .form .nodes ≤ 64) × (reading .next .at ≤ 60000) ⌝ }
@@ -331,17 +342,25 @@ fn end_of(s: &[u8], reading: Reading) -> Refusal
     if !refusal.is_fine() {
         return refusal;
     }
-    if form.length != 0 {
-        let retiming = form.retiming;
-        if !some_zero(retiming, form.nodes) {
-            let before = 13 + 3 * form.classes as u32 + 6 * form.nodes as u32;
-            return Refusal::Retiming(before + 3 * form.edges as u32);
-        }
+    let retiming = form.retiming;
+    if !is_normalized(form.length, form.nodes, retiming) {
+        let before = 13 + 3 * form.classes as u32 + 6 * form.nodes as u32;
+        return Refusal::Retiming(before + 3 * form.edges as u32);
     }
     if next.at < s.len() {
         return Refusal::Tail(next.at as u32);
     }
     Refusal::None
+}
+
+// How many nodes have a start and a retiming.
+fn scheduled_nodes(length: u16, nodes: u8) -> usize
+    ensures { λ r. ⌜ (r ≡ scheduledOf length nodes) × (r ≤ nodes) ⌝ }
+{
+    if length == 0 {
+        return 0;
+    }
+    nodes as usize
 }
 
 // The record in the lent bytes, or the first refusal.
@@ -350,11 +369,7 @@ pub fn read(s: &[u8]) -> Record
 {
     let begun = edges(s, nodes(s, classes(s, header(s))));
     let form = begun.form;
-    let mut scheduled: usize = 0;
-    if form.length != 0 {
-        scheduled = form.nodes as usize;
-    }
-    let reading = starts(s, begun, scheduled);
+    let reading = starts(s, begun, scheduled_nodes(form.length, form.nodes));
     let refusal = end_of(s, reading);
     if !refusal.is_fine() {
         return Record {

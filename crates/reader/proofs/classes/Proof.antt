@@ -1,3 +1,10 @@
+use mathlib.Core.Path.{_≡_, refl, sym, _∙_}
+use Prim.Native.Nat.{ℕ, _≤_, _<_, _+_, _-_}
+use native.Mathlib.Omega.{arith}
+use borrow.Author.Needs.{needs}
+use borrow.Author.Tests.{not-true, not-false}
+use Rattle.reader.proofs.Laws.{Going, begin, turn, stop, finish}
+use Rattle.reader.specs.Tables.{classStep}
 use Rattle.reader.proofs.classes.Statement.{statement}
 use Rattle.reader.proofs.classes.Tie as tie
 use Rattle.reader.proofs.classes.Reads as reads
@@ -6,54 +13,48 @@ use Rattle.answer.proofs.Refusal.is_fine.Reads as is-fine-reads
 use Rattle.reader.proofs.class_row.Reads as class-row-reads
 
 abbrev Inv-loop : tie.InvT-loop
-Inv-loop s form₀ next₀ classes i₀ form next i = ?
+Inv-loop s form₀ next₀ classes i₀ form next i = Going (classStep s) classes (record { form = form₀; next = next₀ }) 3 i (record { form = form; next = next })
 
 abbrev μ-loop : tie.MeasureT-loop
-μ-loop s form₀ next₀ classes i₀ form next i = ?
+μ-loop s form₀ next₀ classes i₀ form next i = classes - i
 
--- src/lib.rt:214:19
 cast-classes : tie.Need-cast-classes Inv-loop μ-loop
-cast-classes c = ?
+cast-classes c = search needs
 
--- src/lib.rt:216:5
 loop-holds : tie.Need-loop-holds Inv-loop μ-loop
-loop-holds c = ?
+loop-holds c = begin _ _ _ _
 
--- src/lib.rt:218:13
 is-fine-requires : tie.Need-is-fine-requires Inv-loop μ-loop
-is-fine-requires c κs = ?
+is-fine-requires c κs = search needs
 
--- src/lib.rt:219:13
 returns : tie.Need-returns Inv-loop μ-loop
-returns c = ?
+returns c = stop _ _ _ _ _ _ (c .before .before .before .loop .inv) (c .before .before .loop-test .taken) (sym (c .before .is-fine .ensures) ∙ not-true _ (c .if1 .taken))
 
--- src/lib.rt:221:13
 class-row-requires : tie.Need-class-row-requires Inv-loop μ-loop
-class-row-requires c κs = ?
+class-row-requires c κs = search needs
 
--- src/lib.rt:223:9
 mul-class : tie.Need-mul-class Inv-loop μ-loop
-mul-class c = ?
+mul-class c = search needs
 
--- src/lib.rt:223:9
 element-set-from-class : tie.Need-element-set-from-class Inv-loop μ-loop
-element-set-from-class c = ?
+element-set-from-class c = search needs
 
--- src/lib.rt:225:9
 add-i : tie.Need-add-i Inv-loop μ-loop
-add-i c = ?
+add-i c = search needs
 
--- src/lib.rt:216:5
 loop-less : tie.Need-loop-less Inv-loop μ-loop
-loop-less c = ?
+loop-less c = search needs
 
--- src/lib.rt:216:5
 loop-again : tie.Need-loop-again Inv-loop μ-loop
-loop-again c = ?
+unfolding classStep
+loop-again c =
+    let l = c .before .before .before .before .before .before in
+    let t = c .before .before .before .before .before .loop-test in
+    let f = c .before .before .before .before in
+    turn _ _ _ _ _ _ (l .loop .inv) (t .taken) (sym (f .is-fine .ensures) ∙ not-false _ (c .before .before .before .if1 .left)) _ (rw (c .before .before .class-row .ensures .is)) refl refl refl refl (omega arith)
 
--- src/lib.rt:208:1
 returns-2 : tie.Need-returns-2 Inv-loop μ-loop
-returns-2 c = ?
+returns-2 c = finish _ _ _ _ _ _ (c .before .loop .inv) (c .loop-test .left)
 
 pub classes-spec : {M : Type 1} → statement M
 classes-spec =

@@ -1,3 +1,5 @@
+use native.Mathlib.Omega.{arith}
+use Rattle.reader.specs.Rows.{edgeAt}
 use borrow.Author.Needs.{needs}
 use Rattle.reader.proofs.edge_row.Statement.{statement}
 use Rattle.reader.proofs.edge_row.Tie as tie
@@ -6,37 +8,33 @@ use Rattle.reader.proofs.edge_row.Lts as lts
 use Rattle.field.proofs.take.Reads as take-reads
 use Rattle.reader.proofs.last_of.Reads as last-of-reads
 
--- src/lib.rt:122:9
 last-of-requires : tie.Need-last-of-requires
 last-of-requires c κs = search needs
 
--- src/lib.rt:123:9
 take-requires : tie.Need-take-requires
 take-requires c κs = search needs
 
--- src/lib.rt:125:9
 take-requires-2 : tie.Need-take-requires-2
 take-requires-2 c κs = search needs
 
--- src/lib.rt:127:9
 take-requires-3 : tie.Need-take-requires-3
 take-requires-3 c κs = search needs
 
--- src/lib.rt:131:19
 cast-t12 : tie.Need-cast-t12
 cast-t12 c = search needs
 
--- src/lib.rt:132:17
 cast-t13 : tie.Need-cast-t13
 cast-t13 c = search needs
 
--- src/lib.rt:133:21
 cast-t14 : tie.Need-cast-t14
 cast-t14 c = search needs
 
--- src/lib.rt:118:1
 returns : tie.Need-returns
-returns c = ?
+unfolding edgeAt
+returns c = record {
+  is = rw (c .before .before .before .before .take3 .ensures .is, c .before .before .before .before .before .before .take2 .ensures .is, c .before .before .before .before .before .before .before .before .take .ensures .is, c .before .before .before .before .before .before .before .before .before .last-of .ensures .0);
+  near = omega arith;
+}
 
 pub edge-row-spec : {M : Type 1} → statement M
 edge-row-spec =

@@ -1,3 +1,5 @@
+use native.Mathlib.Omega.{arith}
+use Rattle.reader.specs.Rows.{nodeAt}
 use borrow.Author.Needs.{needs}
 use Rattle.reader.proofs.node_row.Statement.{statement}
 use Rattle.reader.proofs.node_row.Tie as tie
@@ -7,33 +9,30 @@ use Rattle.field.proofs.take.Reads as take-reads
 use Rattle.reader.proofs.last_of.Reads as last-of-reads
 use Rattle.reader.proofs.operation_of.Reads as operation-of-reads
 
--- src/lib.rt:100:9
 last-of-requires : tie.Need-last-of-requires
 last-of-requires c κs = search needs
 
--- src/lib.rt:101:9
 take-requires : tie.Need-take-requires
 take-requires c κs = search needs
 
--- src/lib.rt:103:9
 take-requires-2 : tie.Need-take-requires-2
 take-requires-2 c κs = search needs
 
--- src/lib.rt:105:9
 take-requires-3 : tie.Need-take-requires-3
 take-requires-3 c κs = search needs
 
--- src/lib.rt:107:9
 operation-of-requires : tie.Need-operation-of-requires
 operation-of-requires c κs = search needs
 
--- src/lib.rt:110:20
 cast-t13 : tie.Need-cast-t13
 cast-t13 c = search needs
 
--- src/lib.rt:96:1
 returns : tie.Need-returns
-returns c = ?
+unfolding nodeAt
+returns c = record {
+  is = rw (c .before .operation-of .ensures, c .before .before .before .take3 .ensures .is, c .before .before .before .before .before .take2 .ensures .is, c .before .before .before .before .before .before .before .take .ensures .is, c .before .before .before .before .before .before .before .before .last-of .ensures .0);
+  near = omega arith;
+}
 
 pub node-row-spec : {M : Type 1} → statement M
 node-row-spec =

@@ -1,41 +1,42 @@
+use mathlib.Core.Path.{_≡_, refl, sym, _∙_}
+use Prim.Native.Nat.{ℕ, suc, _≤_, _<_, _+_, _-_}
+use native.Mathlib.Nat.{sub-zero}
+use native.Mathlib.Omega.{arith}
+use borrow.Author.Needs.{needs}
+use Rattle.reader.specs.Reading.{zeroFrom, someZero}
+use Rattle.reader.proofs.Laws.{zero-here, zero-later, zero-none}
 use Rattle.reader.proofs.some_zero.Statement.{statement}
 use Rattle.reader.proofs.some_zero.Tie as tie
 use Rattle.reader.proofs.some_zero.Reads as reads
 use Rattle.reader.proofs.some_zero.Lts as lts
 
 abbrev Inv-loop : tie.InvT-loop
-Inv-loop nodes retiming end i₀ i = ?
+Inv-loop nodes retiming end i₀ i = (i ≤ end) × (zeroFrom (end - i) i retiming ≡ someZero end retiming)
 
 abbrev μ-loop : tie.MeasureT-loop
-μ-loop nodes retiming end i₀ i = ?
+μ-loop nodes retiming end i₀ i = end - i
 
--- src/lib.rt:314:5
 loop-holds : tie.Need-loop-holds Inv-loop μ-loop
-loop-holds c = ?
+unfolding someZero
+loop-holds c = (search needs, rw sub-zero)
 
--- src/lib.rt:315:12
 array-read-if1 : tie.Need-array-read-if1 Inv-loop μ-loop
-array-read-if1 c = ?
+array-read-if1 c = search needs
 
--- src/lib.rt:316:13
 returns : tie.Need-returns Inv-loop μ-loop
-returns c = ?
+returns c = zero-here _ _ _ _ (c .before .loop-test .taken) (c .if1 .taken) (c .before .before .loop .inv .1)
 
--- src/lib.rt:318:9
 add-i : tie.Need-add-i Inv-loop μ-loop
-add-i c = ?
+add-i c = search needs
 
--- src/lib.rt:314:5
 loop-less : tie.Need-loop-less Inv-loop μ-loop
-loop-less c = ?
+loop-less c = search needs
 
--- src/lib.rt:314:5
 loop-again : tie.Need-loop-again Inv-loop μ-loop
-loop-again c = ?
+loop-again c = (search needs, zero-later _ _ _ _ (c .before .loop-test .taken) (c .if1 .left) (c .before .before .loop .inv .1))
 
--- src/lib.rt:308:1
 returns-2 : tie.Need-returns-2 Inv-loop μ-loop
-returns-2 c = ?
+returns-2 c = zero-none _ _ _ _ (c .loop-test .left) (c .before .loop .inv .1)
 
 pub some-zero-spec : {M : Type 1} → statement M
 some-zero-spec =
