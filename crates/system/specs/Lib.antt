@@ -1,2 +1,4 @@
 pub mod Graph
 pub mod System
+pub mod Rounds
+pub mod Walks

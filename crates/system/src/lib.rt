@@ -1,1 +1,78 @@
-// empty
+// Constraint systems y(tail) + cost ≤ y(head) + gain over the edges of a graph: the least values that solve one, by rounds from 0.
+ghost use mathlib.Core.Path.{_≡_};
+ghost use Prim.Native.Nat.{ℕ, _+_, _*_, _<_, _≤_};
+ghost use lib.ListN.{getD};
+ghost use Rattle.system.specs.Graph.{Joined};
+ghost use Rattle.system.specs.System.{systemOf};
+ghost use Rattle.system.specs.Rounds.{raises, everyEdge, round, settledOf};
+
+// Values that solve the system, if settled; else those of the last round.
+pub struct Settled {
+    pub settled: bool,
+    pub values: [u32; 64],
+}
+
+fn wide(x: u16) -> u32
+    ensures { λ r. ⌜ (r ≡ x) × (r < 65536) ⌝ }
+{
+    x as u32
+}
+
+// One round over the edges, and whether it raised a value. The bound keeps every sum in a u32.
+fn one_round<'a>(
+    values: &mut [u32; 64],
+    nodes: u8,
+    edges: u16,
+    tails: &'a [u8; 256],
+    heads: &'a [u8; 256],
+    gains: &'a [u16; 256],
+    costs: &'a [u16; 256],
+) -> bool
+    requires { ⌜ (nodes ≤ 64) × (edges ≤ 256) ⌝ }
+    requires { ⌜ Joined ((systemOf nodes edges (now tails) (now heads) (now gains) (now costs)) .graph) ⌝ }
+    requires { ⌜ ((v : ℕ) → getD (now values) v 0 ≤ 1056948480) ⌝ }
+    ensures { λ r. ⌜ r ≡ raises (systemOf nodes edges (now (tails .entry)) (now (heads .entry)) (now (gains .entry)) (now (costs .entry))) (now (values .entry)) (everyEdge (systemOf nodes edges (now (tails .entry)) (now (heads .entry)) (now (gains .entry)) (now (costs .entry)))) ⌝ }
+    ensures { λ _. ⌜ now (values .exit) ≡ round (systemOf nodes edges (now (tails .entry)) (now (heads .entry)) (now (gains .entry)) (now (costs .entry))) (now (values .entry)) ⌝ }
+    ensures { λ _. ⌜ ((b : ℕ) → ((v : ℕ) → getD (now (values .entry)) v 0 ≤ b) → (v : ℕ) → getD (now (values .exit)) v 0 ≤ b + 256 * 65535) ⌝ }
+{
+    let mut raised = false;
+    for e in 0..edges {
+        let i = e as usize;
+        let tail = tails[i] as usize;
+        let head = heads[i] as usize;
+        let have = values[head] + wide(gains[i]);
+        let want = values[tail] + wide(costs[i]);
+        if have < want {
+            values[head] = want - wide(gains[i]);
+            raised = true;
+        }
+    }
+    raised
+}
+
+// Rounds from all zeros: settled after a round that raises nothing, unsettled where round number `nodes` still raises.
+pub fn settle<'a>(
+    nodes: u8,
+    edges: u16,
+    tails: &'a [u8; 256],
+    heads: &'a [u8; 256],
+    gains: &'a [u16; 256],
+    costs: &'a [u16; 256],
+) -> Settled
+    requires { ⌜ (1 ≤ nodes) × (nodes ≤ 64) × (edges ≤ 256) ⌝ }
+    requires { ⌜ Joined ((systemOf nodes edges (now tails) (now heads) (now gains) (now costs)) .graph) ⌝ }
+    ensures { λ r. ⌜ r ≡ settledOf (systemOf nodes edges (now (tails .entry)) (now (heads .entry)) (now (gains .entry)) (now (costs .entry))) ⌝ }
+{
+    let mut values = [0u32; 64];
+    let mut settled = false;
+    let mut done = false;
+    let mut left = nodes;
+    while 0 < left {
+        let raised = one_round(&mut values, nodes, edges, tails, heads, gains, costs);
+        if !raised {
+            return Settled { settled: true, values };
+        }
+        left -= 1;
+    }
+    Settled { settled: false, values }
+}
