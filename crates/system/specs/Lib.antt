@@ -2,3 +2,5 @@ pub mod Graph
 pub mod System
 pub mod Rounds
 pub mod Walks
+pub mod Rising
+pub mod Laws
