@@ -1,21 +1,20 @@
 -- What settling a system tells: the least solution where it settles, a losing walk where it does not.
 -- Assumes nothing.
-use mathlib.Core.Path.{_≡_, refl, sym, _∙_, ap, subst}
-use mathlib.Core.Bool.{Bool, true, false, true≢false}
-use mathlib.Core.Logic.{_⊎_, inl, inr, ⊎-elim}
+use mathlib.Core.Path.{_≡_, refl, _∙_, subst}
+use mathlib.Core.Bool.{Bool, true, false}
+use mathlib.Core.Logic.{⊎-elim}
 use mathlib.Core.List.{List, [], _∷_, _++_}
-use Prim.Native.Nat.{ℕ, zero, suc, _+_, _-_, _*_, _≤_, _<_}
+use Prim.Native.Nat.{ℕ, suc, _+_, _-_, _*_, _≤_, _<_}
 use native.Mathlib.Omega.{arith}
 use native.Mathlib.Nat.{mul-le-mul-right}
-use lib.ListN.{length, getD, replicate, length-replicate, length-append}
+use lib.ListN.{length, getD, replicate, length-replicate}
 use Rattle.lists.specs.Fold.{sumOf, sum-append}
 use Rattle.lists.specs.Place.{zeros-at}
-use Rattle.system.specs.Graph.{Graph, Joined, Walk}
+use Rattle.system.specs.Graph.{Joined, Walk}
 use Rattle.system.specs.System.{System, Solves, gains, costs, LosingWalk}
-use Rattle.system.specs.Rounds.{raises, everyEdge, round, settleFrom, settledOf}
-use Rattle.system.specs.Rising.{valueOf, Reached, Under, round-under, round-reached, round-length, settle-keeps, settled-calm, calm-solves, raises-fails, unsettled-raises, after, after-keeps, short-told}
-use Rattle.system.specs.Walks.{along, sound, shorten, Short, walk-join, costs-le}
-use Rattle.system.specs.declared.Settled.{Settled}
+use Rattle.system.specs.Rounds.{raises, everyEdge, settleFrom, settledOf}
+use Rattle.system.specs.Rising.{Reached, Under, round-under, round-reached, round-length, settle-keeps, settled-calm, calm-solves, raises-fails, unsettled-raises, after, after-keeps, short-told}
+use Rattle.system.specs.Walks.{along, sound, shorten, walk-join, costs-le}
 
 -- the value of node v once the rounds are over
 abbrev pub settledAt : System → ℕ → ℕ
@@ -33,6 +32,27 @@ settled-least s y m = settle-keeps s (λ z. Under z y) (λ z p. round-under s y 
 pub settled-length : (s : System) → length ((settledOf s) .values) ≡ 64
 unfolding settledOf
 settled-length s = settle-keeps s (λ z. length z ≡ 64) (λ z p. round-length s z ∙ p) (s .graph .nodes) (replicate 64 0) (length-replicate {A = ℕ} 64 0)
+
+-- a system that settles has a solution
+pub settles-solved : (s : System) → (settledOf s) .settled ≡ true → (y : ℕ → ℕ) × Solves s y
+settles-solved s q = (settledAt s, settled-solves s q)
+
+-- a losing walk keeps a system from settling
+pub loses-unsettled : (s : System) (es : List ℕ) → LosingWalk s es → (settledOf s) .settled ≡ false
+loses-unsettled s es w = go ((settledOf s) .settled) refl
+  where
+    go : (b : Bool) → (settledOf s) .settled ≡ b → (settledOf s) .settled ≡ false
+    go true q = absurd (sound s (settledAt s) es (settled-solves s q) w)
+    go false q = q
+
+-- a walk to v with fewer edges than nodes, whose cost is the value and its gain
+pub record Attained (s : System) (v : ℕ) : Type 0 where
+  pub path : List ℕ
+  pub start : ℕ
+  pub start-in : start < s .graph .nodes
+  pub walk : Walk (s .graph) start path v
+  pub few : length path < s .graph .nodes
+  pub value : settledAt s v + gains s path ≡ costs s path
 
 module _ (s : System) (j : Joined (s .graph)) where
   zeros-reached : (v : ℕ) → v < s .graph .nodes → Reached s (replicate 64 0) v
@@ -72,7 +92,7 @@ module _ (s : System) (j : Joined (s .graph)) where
       let f = raises-fails s (after s k (replicate 64 0)) z in
       fails-loses k is n (f .0) (f .1) (f .2)
 
-  -- a system settles exactly where it has a solution
+  -- a system that has a solution settles
   pub solved-settles : 1 ≤ s .graph .nodes → s .graph .nodes ≤ 64 → (y : ℕ → ℕ) → Solves s y → (settledOf s) .settled ≡ true
   solved-settles one n y m = go ((settledOf s) .settled) refl
     where
@@ -80,27 +100,7 @@ module _ (s : System) (j : Joined (s .graph)) where
       go true q = q
       go false q = let t = unsettled-loses one n q in absurd (sound s y (t .0) m (t .1))
 
-  pub settles-solved : (settledOf s) .settled ≡ true → (y : ℕ → ℕ) × Solves s y
-  settles-solved q = (settledAt s, settled-solves s q)
-
-  -- a losing walk is what keeps a system from settling
-  pub loses-unsettled : (es : List ℕ) → LosingWalk s es → (settledOf s) .settled ≡ false
-  loses-unsettled es w = go ((settledOf s) .settled) refl
-    where
-      go : (b : Bool) → (settledOf s) .settled ≡ b → (settledOf s) .settled ≡ false
-      go true q = absurd (sound s (settledAt s) es (settled-solves s q) w)
-      go false q = q
-
-  -- a walk to v with fewer edges than nodes, whose cost is the value and its gain
-  pub record Attained (v : ℕ) : Type 0 where
-    pub path : List ℕ
-    pub start : ℕ
-    pub start-in : start < s .graph .nodes
-    pub walk : Walk (s .graph) start path v
-    pub few : length path < s .graph .nodes
-    pub value : settledAt s v + gains s path ≡ costs s path
-
-  pub values-reached : (settledOf s) .settled ≡ true → (v : ℕ) → v < s .graph .nodes → Attained v
+  pub values-reached : (settledOf s) .settled ≡ true → (v : ℕ) → v < s .graph .nodes → Attained s v
   unfolding settledOf
   values-reached q v l =
       let r : Reached s ((settledOf s) .values) v = settle-keeps s (λ z. (v : ℕ) → v < s .graph .nodes → Reached s z v) (round-reached s j) (s .graph .nodes) (replicate 64 0) zeros-reached v l in
@@ -119,6 +119,6 @@ module _ (s : System) (j : Joined (s .graph)) where
   -- where no edge costs more than k, no value is above k for each node but one
   pub values-bound : (settledOf s) .settled ≡ true → (k : ℕ) → ((e : ℕ) → e < s .graph .edges → s .cost e ≤ k) → (v : ℕ) → v < s .graph .nodes → settledAt s v ≤ (s .graph .nodes - 1) * k
   values-bound q k h v l =
-      let t : Attained v = values-reached q v l in
+      let t : Attained s v = values-reached q v l in
       let le : length (t .path) ≤ s .graph .nodes - 1 = omega arith in
       omega (arith, costs-le s k h (t .start) (t .path) v (t .walk), mul-le-mul-right k le)

@@ -4,3 +4,4 @@ pub mod Rounds
 pub mod Walks
 pub mod Rising
 pub mod Laws
+pub mod Turned

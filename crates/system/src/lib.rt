@@ -64,8 +64,6 @@ pub fn settle<'a>(
     ensures { λ r. ⌜ r ≡ settledOf (systemOf nodes edges (now (tails .entry)) (now (heads .entry)) (now (gains .entry)) (now (costs .entry))) ⌝ }
 {
     let mut values = [0u32; 64];
-    let mut settled = false;
-    let mut done = false;
     let mut left = nodes;
     while 0 < left {
         let raised = one_round(&mut values, nodes, edges, tails, heads, gains, costs);
