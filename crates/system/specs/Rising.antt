@@ -8,7 +8,7 @@ use Prim.Native.Nat.{ℕ, zero, suc, _+_, _-_, _≤_, _<_, max}
 use native.Mathlib.Omega.{arith}
 use native.Mathlib.Decide.{decLe, ℕ-discrete}
 use native.Mathlib.Nat.{not-suc-le-zero, le-of-suc-le-suc, eq-or-lt-of-le}
-use borrow.Author.Tests.{ltb-true, ltb-false, le-ltb}
+use borrow.Author.Tests.{ltb-true, ltb-false, le-ltb, lt-ltb}
 use lib.Dec.{ltb}
 use lib.ListN.{length, getD, set, length-set}
 use lib.Seq.{getD-set-same, set-getD}
@@ -86,7 +86,7 @@ module _ (s : System) where
           }
 
   -- an edge that does not ask leaves the values as they are
-  raise-calm : (y : List ℕ) (e : ℕ) → Holds y e → raise s y e ≡ y
+  pub raise-calm : (y : List ℕ) (e : ℕ) → Holds y e → raise s y e ≡ y
   unfolding raise
   raise-calm y e h =
       let q : max (getD y (s .graph .head e) 0) (getD y (s .graph .tail e) 0 + s .cost e - s .gain e) ≡ getD y (s .graph .head e) 0 = omega arith in
@@ -103,6 +103,16 @@ module _ (s : System) where
   pub asks-true : (y : List ℕ) (e : ℕ) → asks s y e ≡ true → getD y (s .graph .head e) 0 + s .gain e < getD y (s .graph .tail e) 0 + s .cost e
   unfolding asks
   asks-true y e q = ltb-true _ _ q
+
+  pub fails-asks : (y : List ℕ) (e : ℕ) → getD y (s .graph .head e) 0 + s .gain e < getD y (s .graph .tail e) 0 + s .cost e → asks s y e ≡ true
+  unfolding asks
+  fails-asks y e h = lt-ltb _ _ h
+
+  -- an edge that asks has its head set to what it asks
+  pub raise-asks : (y : List ℕ) (e : ℕ) → getD y (s .graph .head e) 0 + s .gain e < getD y (s .graph .tail e) 0 + s .cost e
+      → raise s y e ≡ set y (s .graph .head e) (getD y (s .graph .tail e) 0 + s .cost e - s .gain e)
+  unfolding raise
+  raise-asks y e h = ap (set y (s .graph .head e)) (omega arith)
 
   -- ---- one round, over n edges from i on
 

@@ -40,10 +40,11 @@ fn one_round<'a>(
         let i = e as usize;
         let tail = tails[i] as usize;
         let head = heads[i] as usize;
-        let have = values[head] + wide(gains[i]);
+        let gain = wide(gains[i]);
+        let have = values[head] + gain;
         let want = values[tail] + wide(costs[i]);
         if have < want {
-            values[head] = want - wide(gains[i]);
+            values[head] = want - gain;
             raised = true;
         }
     }

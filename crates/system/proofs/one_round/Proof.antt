@@ -1,3 +1,10 @@
+use mathlib.Core.Logic.{⊎-elim}
+use Prim.Native.Nat.{ℕ, _≤_, _<_, _-_}
+use lib.ListN.{getD}
+use native.Mathlib.Omega.{arith}
+use borrow.Author.Needs.{needs}
+use Rattle.system.specs.System.{systemOf}
+use Rattle.system.proofs.Laws.{Sofar, sofar-none, sofar-asks, sofar-holds, sofar-all}
 use Rattle.system.proofs.one_round.Statement.{statement}
 use Rattle.system.proofs.one_round.Tie as tie
 use Rattle.system.proofs.one_round.Reads as reads
@@ -5,122 +12,113 @@ use Rattle.system.proofs.one_round.Lts as lts
 use Rattle.system.proofs.wide.Reads as wide-reads
 
 abbrev Inv-loop : tie.InvT-loop
-Inv-loop values₀ nodes edges tails heads gains costs raised₀ e₀ values raised e = ?
+Inv-loop values₀ nodes edges tails heads gains costs raised₀ e₀ values raised e = (e ≤ edges) × Sofar (systemOf nodes edges tails heads gains costs) values₀ values raised e
 
 abbrev μ-loop : tie.MeasureT-loop
-μ-loop values₀ nodes edges tails heads gains costs raised₀ e₀ values raised e = ?
+μ-loop values₀ nodes edges tails heads gains costs raised₀ e₀ values raised e = edges - e
 
--- src/lib.rt:39:5
+-- an edge's nodes are places of the values
+tail-in : (c : tie.In-loop Inv-loop μ-loop) → getD (c .before .before .args .tails .now) (c .before .loop .e) 0 < 64
+unfolding systemOf
+tail-in c = omega (arith, c .before .before .pre .1 .0 .tails (c .before .loop .e) (c .loop-test .taken))
+
+head-in : (c : tie.In-loop Inv-loop μ-loop) → getD (c .before .before .args .heads .now) (c .before .loop .e) 0 < 64
+unfolding systemOf
+head-in c = omega (arith, c .before .before .pre .1 .0 .heads (c .before .loop .e) (c .loop-test .taken))
+
+-- with room for one edge more in a u32
+low : (c : tie.In-loop Inv-loop μ-loop) (v : ℕ) → getD (c .before .loop .values) v 0 ≤ 1073725440
+low c v = omega (arith, c .before .loop .inv .1 .bound 1056948480 (c .before .before .pre .1 .1) v)
+
 loop-holds : tie.Need-loop-holds Inv-loop μ-loop
-loop-holds c = ?
+loop-holds c = (search needs, sofar-none _ _)
 
--- src/lib.rt:40:17
 cast-i : tie.Need-cast-i Inv-loop μ-loop
-cast-i c = ?
+cast-i c = search needs
 
--- src/lib.rt:41:20
 element-copy-out-tail : tie.Need-element-copy-out-tail Inv-loop μ-loop
-element-copy-out-tail c = ?
+element-copy-out-tail c = search needs
 
--- src/lib.rt:41:20
 cast-tail : tie.Need-cast-tail Inv-loop μ-loop
-cast-tail c = ?
+cast-tail c = omega (arith, tail-in (c .before))
 
--- src/lib.rt:42:20
 element-copy-out-head : tie.Need-element-copy-out-head Inv-loop μ-loop
-element-copy-out-head c = ?
+element-copy-out-head c = search needs
 
--- src/lib.rt:42:20
 cast-head : tie.Need-cast-head Inv-loop μ-loop
-cast-head c = ?
+cast-head c = omega (arith, head-in (c .before .before))
 
--- src/lib.rt:43:20
-mul-have : tie.Need-mul-have Inv-loop μ-loop
-mul-have c = ?
-
--- src/lib.rt:43:20
-element-copy-out-have : tie.Need-element-copy-out-have Inv-loop μ-loop
-element-copy-out-have c = ?
-
--- src/lib.rt:43:40
 mul-wide : tie.Need-mul-wide Inv-loop μ-loop
-mul-wide c = ?
+mul-wide c = search needs
 
--- src/lib.rt:43:40
 element-copy-out-wide : tie.Need-element-copy-out-wide Inv-loop μ-loop
-element-copy-out-wide c = ?
+element-copy-out-wide c = search needs
 
--- src/lib.rt:43:35
 wide-requires : tie.Need-wide-requires Inv-loop μ-loop
-wide-requires c κs = ?
+wide-requires c κs = search needs
 
--- src/lib.rt:43:20
+mul-have : tie.Need-mul-have Inv-loop μ-loop
+mul-have c = omega (arith, head-in (c .before .before .before .before))
+
+element-copy-out-have : tie.Need-element-copy-out-have Inv-loop μ-loop
+element-copy-out-have c = omega (arith, head-in (c .before .before .before .before))
+
 add-have : tie.Need-add-have Inv-loop μ-loop
-add-have c = ?
+add-have c = omega (arith, low (c .before .before .before .before .before) (getD (c .before .before .before .before .before .before .before .args .heads .now) (c .before .before .before .before .before .before .loop .e) 0))
 
--- src/lib.rt:44:20
 mul-want : tie.Need-mul-want Inv-loop μ-loop
-mul-want c = ?
+mul-want c = omega (arith, tail-in (c .before .before .before .before .before))
 
--- src/lib.rt:44:20
 element-copy-out-want : tie.Need-element-copy-out-want Inv-loop μ-loop
-element-copy-out-want c = ?
+element-copy-out-want c = omega (arith, tail-in (c .before .before .before .before .before))
 
--- src/lib.rt:44:40
 mul-wide-2 : tie.Need-mul-wide-2 Inv-loop μ-loop
-mul-wide-2 c = ?
+mul-wide-2 c = search needs
 
--- src/lib.rt:44:40
 element-copy-out-wide-2 : tie.Need-element-copy-out-wide-2 Inv-loop μ-loop
-element-copy-out-wide-2 c = ?
+element-copy-out-wide-2 c = search needs
 
--- src/lib.rt:44:35
 wide-requires-2 : tie.Need-wide-requires-2 Inv-loop μ-loop
-wide-requires-2 c κs = ?
+wide-requires-2 c κs = search needs
 
--- src/lib.rt:44:20
 add-want : tie.Need-add-want Inv-loop μ-loop
-add-want c = ?
+add-want c = omega (arith, low (c .before .before .before .before .before .before .before .before) (getD (c .before .before .before .before .before .before .before .before .before .before .args .tails .now) (c .before .before .before .before .before .before .before .before .before .loop .e) 0))
 
--- src/lib.rt:46:40
-mul-wide-3 : tie.Need-mul-wide-3 Inv-loop μ-loop
-mul-wide-3 c = ?
-
--- src/lib.rt:46:40
-element-copy-out-wide-3 : tie.Need-element-copy-out-wide-3 Inv-loop μ-loop
-element-copy-out-wide-3 c = ?
-
--- src/lib.rt:46:35
-wide-requires-3 : tie.Need-wide-requires-3 Inv-loop μ-loop
-wide-requires-3 c κs = ?
-
--- src/lib.rt:46:28
 sub-values : tie.Need-sub-values Inv-loop μ-loop
-sub-values c = ?
+sub-values c = search needs
 
--- src/lib.rt:46:13
 mul-values : tie.Need-mul-values Inv-loop μ-loop
-mul-values c = ?
+mul-values c = omega (arith, head-in (c .before .before .before .before .before .before .before .before .before))
 
--- src/lib.rt:46:13
 element-write-values : tie.Need-element-write-values Inv-loop μ-loop
-element-write-values c = ?
+element-write-values c = omega (arith, head-in (c .before .before .before .before .before .before .before .before .before))
 
--- src/lib.rt:39:9
 add-e : tie.Need-add-e Inv-loop μ-loop
-add-e c = ?
+add-e c = search needs
 
--- src/lib.rt:39:5
 loop-less : tie.Need-loop-less Inv-loop μ-loop
-loop-less c = ?
+loop-less c = search needs
 
--- src/lib.rt:39:5
 loop-again : tie.Need-loop-again Inv-loop μ-loop
-loop-again c = ?
+unfolding systemOf
+loop-again c =
+    let p = c .before in
+    let g = p .before .before .before .before in
+    let t = g .before .before .before .before in
+    (
+      search needs,
+      ⊎-elim
+      (λ w. sofar-asks _ _ _ _ _ (t .before .loop .inv .1) (t .loop-test .taken) _ _ _ _ (g .wide .ensures .0) (p .wide2 .ensures .0) (p .wide2 .ensures .1) (w .0 .taken) (w .1) (w .2))
+      (λ w. sofar-holds _ _ _ _ _ (t .before .loop .inv .1) (t .loop-test .taken) _ _ _ _ (g .wide .ensures .0) (p .wide2 .ensures .0) (w .0 .left) (w .1) (w .2))
+      (c .if1 .came),
+    )
 
--- src/lib.rt:22:1
 returns : tie.Need-returns Inv-loop μ-loop
-returns c = ?
+unfolding systemOf
+returns c =
+    let t = c .before .loop .inv in
+    let a = sofar-all _ _ _ _ _ (t .1) (c .loop-test .left) in
+    (a .0, (a .1, λ b h v. omega (arith, t .1 .bound b h v)))
 
 pub one-round-spec : {M : Type 1} → statement M
 one-round-spec =
@@ -134,11 +132,11 @@ one-round-spec =
     cast-tail
     element-copy-out-head
     cast-head
-    mul-have
-    element-copy-out-have
     mul-wide
     element-copy-out-wide
     wide-requires
+    mul-have
+    element-copy-out-have
     add-have
     mul-want
     element-copy-out-want
@@ -146,9 +144,6 @@ one-round-spec =
     element-copy-out-wide-2
     wide-requires-2
     add-want
-    mul-wide-3
-    element-copy-out-wide-3
-    wide-requires-3
     sub-values
     mul-values
     element-write-values
