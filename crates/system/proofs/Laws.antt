@@ -1,4 +1,4 @@
--- A round that has come to edge e, and one edge more.
+-- A round that has come to edge e, and one edge more; rounds of which some are left, and one round more.
 -- Assumes nothing.
 use mathlib.Core.Path.{_≡_, refl, sym, _∙_, ap, subst}
 use mathlib.Core.Bool.{Bool, true, false}
@@ -9,13 +9,14 @@ use native.Mathlib.Omega.{arith}
 use native.Mathlib.Numerals.{add-one}
 use native.Mathlib.Nat.{sub-zero}
 use lib.ListN.{getD, set}
-use Rattle.lists.specs.Pick.{pick}
+use Rattle.lists.specs.Pick.{pick, pick-true, pick-false}
 use Rattle.lists.specs.Span.{span}
 use Rattle.lists.specs.Fold.{fold}
 use Rattle.lists.specs.Place.{set-view}
 use Rattle.system.specs.System.{System}
-use Rattle.system.specs.Rounds.{asks, raise, raiseAll, raises, everyEdge, round}
-use Rattle.system.specs.Rising.{Holds, fails-asks, raise-asks, holds-asks, raise-calm}
+use Rattle.system.specs.Rounds.{asks, raise, raiseAll, raises, everyEdge, round, settleFrom}
+use Rattle.system.specs.declared.Settled.{Settled}
+use Rattle.system.specs.Rising.{Holds, fails-asks, raise-asks, holds-asks, raise-calm, calm-same}
 
 -- what is left of the round, from y and the flag on, gives what the whole round gives from y₀
 pub record Sofar (s : System) (y₀ y : List ℕ) (raised : Bool) (e : ℕ) : Type 0 where
@@ -86,3 +87,29 @@ module _ (s : System) (y₀ : List ℕ) where
         sym (pick-none raised) ∙ subst (λ (m : ℕ). pick raised true (raises s y (span e m)) ≡ raises s y₀ (everyEdge s)) none (sofar .flag),
         subst (λ (m : ℕ). raiseAll s y (span e m) ≡ round s y₀) none (sofar .rest),
       )
+
+module _ (s : System) (left : ℕ) (y y′ : List ℕ) (raised : Bool) (whole : Settled) (is-raised : raised ≡ raises s y (everyEdge s)) (is-y : y′ ≡ round s y)
+    (l : 0 < left) (rest : settleFrom s left y ≡ whole) where
+  opened : settleFrom s (suc (left - 1)) y ≡ whole
+  opened =
+      let more : left ≡ suc (left - 1) = omega arith in
+      subst (λ (m : ℕ). settleFrom s m y ≡ whole) more rest
+
+  -- a round that raises leaves one round less
+  pub settle-on : raised ≡ true → settleFrom s (left - 1) y′ ≡ whole
+  unfolding settleFrom
+  settle-on q = rw is-y (sym (pick-true (raises s y (everyEdge s)) (settleFrom s (left - 1) (round s y)) _ (sym is-raised ∙ q)) ∙ opened)
+
+  -- one that does not is the last
+  pub settle-done : raised ≡ false → _≡_ {A = Settled} (record { settled = true; values = y′ }) whole
+  unfolding settleFrom
+  settle-done q =
+      let calm : raises s y (everyEdge s) ≡ false = sym is-raised ∙ q in
+      rw (is-y, calm-same s y calm) (sym (pick-false (raises s y (everyEdge s)) (settleFrom s (left - 1) (round s y)) _ calm) ∙ opened)
+
+-- no round is left
+pub settle-out : (s : System) (left : ℕ) (y : List ℕ) (whole : Settled) → settleFrom s left y ≡ whole → left ≤ 0 → _≡_ {A = Settled} (record { settled = false; values = y }) whole
+unfolding settleFrom
+settle-out s left y whole rest l =
+    let none : left ≡ 0 = omega arith in
+    subst (λ (m : ℕ). settleFrom s m y ≡ whole) none rest

@@ -67,7 +67,7 @@ module _ (s : System) (j : Joined (s .graph)) where
   fails-loses k is n e l f =
       let y : List ℕ = after s k (replicate 64 0) in
       let r : Reached s y (s .graph .tail e) =
-          after-keeps s (λ z. (v : ℕ) → v < s .graph .nodes → Reached s z v) (round-reached s j) k (replicate 64 0) zeros-reached (s .graph .tail e) (j .tails e l) in
+      after-keeps s (λ z. (v : ℕ) → v < s .graph .nodes → Reached s z v) (round-reached s j) k (replicate 64 0) zeros-reached (s .graph .tail e) (j .tails e l) in
       let es : List ℕ = r .path ++ (e ∷ []) in
       let w : Walk (s .graph) (r .start) es (s .graph .head e) = walk-join (s .graph) (r .start) (r .path) (s .graph .tail e) (e ∷ []) (s .graph .head e) (r .walk) (l, refl, refl) in
       ⊎-elim

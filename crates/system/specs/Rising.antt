@@ -72,6 +72,7 @@ module _ (s : System) where
     where
       same : getD (raise s y e) v 0 ≡ getD y v 0 → Reached s (raise s y e) v
       same q = let t = r v lv in record { path = t .path; start = t .start; start-in = t .start-in; walk = t .walk; value = omega arith }
+
       go : ((v ≡ s .graph .head e) × (getD (raise s y e) v 0 ≡ max (getD y (s .graph .head e) 0) (getD y (s .graph .tail e) 0 + s .cost e - s .gain e))) ⊎ (getD (raise s y e) v 0 ≡ getD y v 0)
           → Dec (getD y (s .graph .tail e) 0 + s .cost e - s .gain e ≤ getD y (s .graph .head e) 0) → Reached s (raise s y e) v
       go (inr q) d = same q
@@ -162,15 +163,31 @@ module _ (s : System) where
       pick-ind (λ r. r ≡ false → Holds y e) (asks s y i) true (raises s (raise s y i) (span (suc i) n))
       (λ t z. absurd (true≢false z))
       (λ f z.
-        let h : Holds y i = asks-false y i f in
-        let z′ : raises s y (span (suc i) n) ≡ false = rw (raise-calm y i h) at z in
-        ⊎-elim (λ k. subst (Holds y) k h) (λ k. span-calm n (suc i) y z′ e k (omega arith)) (eq-or-lt-of-le a))
+      let h : Holds y i = asks-false y i f in
+      let z′ : raises s y (span (suc i) n) ≡ false = rw (raise-calm y i h) at z in
+      ⊎-elim (λ k. subst (Holds y) k h) (λ k. span-calm n (suc i) y z′ e k (omega arith)) (eq-or-lt-of-le a))
       q
 
   -- a round that raises nothing has found every constraint met
   pub calm-solves : (y : List ℕ) → raises s y (everyEdge s) ≡ false → Solves s (valueOf y)
   unfolding everyEdge
   calm-solves y q e l = span-calm (s .graph .edges) 0 y q e (omega arith) (omega arith)
+
+  span-same : (n i : ℕ) (y : List ℕ) → raises s y (span i n) ≡ false → raiseAll s y (span i n) ≡ y
+  unfolding raises raiseAll fold span
+  span-same zero i y q = refl
+  span-same (suc n) i y q =
+      pick-ind (λ r. r ≡ false → fold (raise s) (raise s y i) (span (suc i) n) ≡ y) (asks s y i) true (raises s (raise s y i) (span (suc i) n))
+      (λ t z. absurd (true≢false z))
+      (λ f z.
+      let h : Holds y i = asks-false y i f in
+      span-same n (suc i) (raise s y i) z ∙ raise-calm y i h)
+      q
+
+  -- and has left the values as they were
+  pub calm-same : (y : List ℕ) → raises s y (everyEdge s) ≡ false → round s y ≡ y
+  unfolding everyEdge round
+  calm-same y q = span-same (s .graph .edges) 0 y q
 
   span-raises : (n i : ℕ) (y : List ℕ) → i + n ≤ s .graph .edges → raises s y (span i n) ≡ true
       → (e : ℕ) × (e < s .graph .edges) × (getD y (s .graph .head e) 0 + s .gain e < getD y (s .graph .tail e) 0 + s .cost e)
@@ -181,8 +198,8 @@ module _ (s : System) where
       (asks s y i) true (raises s (raise s y i) (span (suc i) n))
       (λ t z. (i, omega arith, asks-true y i t))
       (λ f z.
-        let h : Holds y i = asks-false y i f in
-        span-raises n (suc i) y (omega arith) (rw (raise-calm y i h) at z))
+      let h : Holds y i = asks-false y i f in
+      span-raises n (suc i) y (omega arith) (rw (raise-calm y i h) at z))
       q
 
   -- a round that raises something began with a constraint that fails

@@ -69,9 +69,15 @@ pub fn settle<'a>(
     while 0 < left {
         let raised = one_round(&mut values, nodes, edges, tails, heads, gains, costs);
         if !raised {
-            return Settled { settled: true, values };
+            return Settled {
+                settled: true,
+                values,
+            };
         }
         left -= 1;
     }
-    Settled { settled: false, values }
+    Settled {
+        settled: false,
+        values,
+    }
 }

@@ -104,13 +104,12 @@ unfolding systemOf
 loop-again c =
     let p = c .before in
     let g = p .before .before .before .before in
-    let t = g .before .before .before .before in
-    (
+    let t = g .before .before .before .before in (
       search needs,
       ⊎-elim
-      (λ w. sofar-asks _ _ _ _ _ (t .before .loop .inv .1) (t .loop-test .taken) _ _ _ _ (g .wide .ensures .0) (p .wide2 .ensures .0) (p .wide2 .ensures .1) (w .0 .taken) (w .1) (w .2))
-      (λ w. sofar-holds _ _ _ _ _ (t .before .loop .inv .1) (t .loop-test .taken) _ _ _ _ (g .wide .ensures .0) (p .wide2 .ensures .0) (w .0 .left) (w .1) (w .2))
-      (c .if1 .came),
+          (λ w. sofar-asks _ _ _ _ _ (t .before .loop .inv .1) (t .loop-test .taken) _ _ _ _ (g .wide .ensures .0) (p .wide2 .ensures .0) (p .wide2 .ensures .1) (w .0 .taken) (w .1) (w .2))
+          (λ w. sofar-holds _ _ _ _ _ (t .before .loop .inv .1) (t .loop-test .taken) _ _ _ _ (g .wide .ensures .0) (p .wide2 .ensures .0) (w .0 .left) (w .1) (w .2))
+          (c .if1 .came),
     )
 
 returns : tie.Need-returns Inv-loop μ-loop
