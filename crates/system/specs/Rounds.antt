@@ -1,8 +1,9 @@
 -- Values that rise from 0 in rounds over the edges until no edge asks for more.
 -- Assumes nothing.
+use mathlib.Core.Path.{_≡_}
 use mathlib.Core.Bool.{Bool, true, false}
 use mathlib.Core.List.{List, [], _∷_}
-use Prim.Native.Nat.{ℕ, zero, suc, _+_, _-_, max}
+use Prim.Native.Nat.{ℕ, zero, suc, _+_, _-_, _*_, _≤_, max}
 use lib.Dec.{ltb}
 use lib.ListN.{getD, set, replicate}
 use Rattle.lists.specs.Pick.{pick}
@@ -35,6 +36,12 @@ everyEdge s = span 0 (s .graph .edges)
 
 unfoldable pub round : System → List ℕ → List ℕ
 round s y = raiseAll s y (everyEdge s)
+
+-- what a round over at most 256 edges, each of which costs at most 65535, makes of y₀
+pub record Rounded (s : System) (y₀ y : List ℕ) (raised : Bool) : Type 0 where
+  pub is-raised : raised ≡ raises s y₀ (everyEdge s)
+  pub is-round : y ≡ round s y₀
+  pub bound : (b : ℕ) → ((v : ℕ) → getD y₀ v 0 ≤ b) → (v : ℕ) → getD y v 0 ≤ b + 256 * 65535
 
 -- at most `left` more rounds, the last of them the first that raises nothing
 unfoldable pub settleFrom : System → ℕ → List ℕ → Settled

@@ -1,10 +1,10 @@
 // Constraint systems y(tail) + cost ≤ y(head) + gain over the edges of a graph: the least values that solve one, by rounds from 0.
 ghost use mathlib.Core.Path.{_≡_};
-ghost use Prim.Native.Nat.{ℕ, _+_, _*_, _<_, _≤_};
+ghost use Prim.Native.Nat.{ℕ, _<_, _≤_};
 ghost use lib.ListN.{getD};
 ghost use Rattle.system.specs.Graph.{Joined};
 ghost use Rattle.system.specs.System.{systemOf};
-ghost use Rattle.system.specs.Rounds.{raises, everyEdge, round, settledOf};
+ghost use Rattle.system.specs.Rounds.{Rounded, settledOf};
 
 // Values that solve the system, if settled; else those of the last round.
 pub struct Settled {
@@ -12,13 +12,14 @@ pub struct Settled {
     pub values: [u32; 64],
 }
 
+// A gain or cost as a u32; the bound spares each use a proof.
 fn wide(x: u16) -> u32
     ensures { λ r. ⌜ (r ≡ x) × (r < 65536) ⌝ }
 {
     x as u32
 }
 
-// One round over the edges, and whether it raised a value. The bound keeps every sum in a u32.
+// One round over the edges, and whether it raised a value. 63 rounds of 256 edges raise no value above the bound, and a u32 has room for one more.
 fn one_round<'a>(
     values: &mut [u32; 64],
     nodes: u8,
@@ -31,9 +32,7 @@ fn one_round<'a>(
     requires { ⌜ (nodes ≤ 64) × (edges ≤ 256) ⌝ }
     requires { ⌜ Joined ((systemOf nodes edges (now tails) (now heads) (now gains) (now costs)) .graph) ⌝ }
     requires { ⌜ ((v : ℕ) → getD (now values) v 0 ≤ 1056948480) ⌝ }
-    ensures { λ r. ⌜ r ≡ raises (systemOf nodes edges (now (tails .entry)) (now (heads .entry)) (now (gains .entry)) (now (costs .entry))) (now (values .entry)) (everyEdge (systemOf nodes edges (now (tails .entry)) (now (heads .entry)) (now (gains .entry)) (now (costs .entry)))) ⌝ }
-    ensures { λ _. ⌜ now (values .exit) ≡ round (systemOf nodes edges (now (tails .entry)) (now (heads .entry)) (now (gains .entry)) (now (costs .entry))) (now (values .entry)) ⌝ }
-    ensures { λ _. ⌜ ((b : ℕ) → ((v : ℕ) → getD (now (values .entry)) v 0 ≤ b) → (v : ℕ) → getD (now (values .exit)) v 0 ≤ b + 256 * 65535) ⌝ }
+    ensures { λ r. ⌜ Rounded (systemOf nodes edges (now (tails .entry)) (now (heads .entry)) (now (gains .entry)) (now (costs .entry))) (now (values .entry)) (now (values .exit)) r ⌝ }
 {
     let mut raised = false;
     for e in 0..edges {

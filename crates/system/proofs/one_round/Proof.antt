@@ -1,5 +1,8 @@
+-- `system::one_round` meets its contract: what is left of the round gives what the whole round gives.
+-- Assumes nothing.
 use mathlib.Core.Logic.{⊎-elim}
 use Prim.Native.Nat.{ℕ, _≤_, _<_, _-_}
+use mathlib.Core.List.{List}
 use lib.ListN.{getD}
 use native.Mathlib.Omega.{arith}
 use borrow.Author.Needs.{needs}
@@ -7,31 +10,36 @@ use Rattle.system.specs.System.{systemOf}
 use Rattle.system.proofs.Laws.{Sofar, sofar-none, sofar-asks, sofar-holds, sofar-all}
 use Rattle.system.proofs.one_round.Statement.{statement}
 use Rattle.system.proofs.one_round.Tie as tie
-use Rattle.system.proofs.one_round.Reads as reads
-use Rattle.system.proofs.one_round.Lts as lts
-use Rattle.system.proofs.wide.Reads as wide-reads
 
 abbrev Inv-loop : tie.InvT-loop
-Inv-loop values₀ nodes edges tails heads gains costs raised₀ e₀ values raised e = (e ≤ edges) × Sofar (systemOf nodes edges tails heads gains costs) values₀ values raised e
+Inv-loop values₀ nodes edges tails heads gains costs raised₀ e₀ values raised e = Sofar (systemOf nodes edges tails heads gains costs) values₀ values raised e × (e ≤ edges)
 
 abbrev μ-loop : tie.MeasureT-loop
 μ-loop values₀ nodes edges tails heads gains costs raised₀ e₀ values raised e = edges - e
 
--- an edge's nodes are places of the values
-tail-in : (c : tie.In-loop Inv-loop μ-loop) → getD (c .before .before .args .tails .now) (c .before .loop .e) 0 < 64
-unfolding systemOf
-tail-in c = omega (arith, c .before .before .pre .1 .0 .tails (c .before .loop .e) (c .loop-test .taken))
+-- an edge's nodes are places of the values, which have room for one edge more in a u32
+record Ends (values : List ℕ) (u v : ℕ) : Type 0 where
+  tail-in : u < 64
+  head-in : v < 64
+  tail-low : getD values u 0 ≤ 1073725440
+  head-low : getD values v 0 ≤ 1073725440
 
-head-in : (c : tie.In-loop Inv-loop μ-loop) → getD (c .before .before .args .heads .now) (c .before .loop .e) 0 < 64
+ends : (c : tie.In-loop Inv-loop μ-loop) → Ends (c .before .loop .values) (getD (c .before .before .args .tails .now) (c .before .loop .e) 0) (getD (c .before .before .args .heads .now) (c .before .loop .e) 0)
 unfolding systemOf
-head-in c = omega (arith, c .before .before .pre .1 .0 .heads (c .before .loop .e) (c .loop-test .taken))
-
--- with room for one edge more in a u32
-low : (c : tie.In-loop Inv-loop μ-loop) (v : ℕ) → getD (c .before .loop .values) v 0 ≤ 1073725440
-low c v = omega (arith, c .before .loop .inv .1 .bound 1056948480 (c .before .before .pre .1 .1) v)
+ends c =
+    let e = c .before .loop .e in
+    let a = c .before .before .args in
+    let p = c .before .before .pre in
+    let low = c .before .loop .inv .0 .bound 1056948480 (p .1 .1) in
+    record {
+      tail-in = omega (arith, p .1 .0 .tails e (c .loop-test .taken));
+      head-in = omega (arith, p .1 .0 .heads e (c .loop-test .taken));
+      tail-low = omega (arith, low (getD (a .tails .now) e 0));
+      head-low = omega (arith, low (getD (a .heads .now) e 0));
+    }
 
 loop-holds : tie.Need-loop-holds Inv-loop μ-loop
-loop-holds c = (search needs, sofar-none _ _)
+loop-holds c = (sofar-none _ _, search needs)
 
 cast-i : tie.Need-cast-i Inv-loop μ-loop
 cast-i c = search needs
@@ -40,13 +48,13 @@ element-copy-out-tail : tie.Need-element-copy-out-tail Inv-loop μ-loop
 element-copy-out-tail c = search needs
 
 cast-tail : tie.Need-cast-tail Inv-loop μ-loop
-cast-tail c = omega (arith, tail-in (c .before))
+cast-tail c = omega (arith, ends (c .before))
 
 element-copy-out-head : tie.Need-element-copy-out-head Inv-loop μ-loop
 element-copy-out-head c = search needs
 
 cast-head : tie.Need-cast-head Inv-loop μ-loop
-cast-head c = omega (arith, head-in (c .before .before))
+cast-head c = omega (arith, ends (c .before .before))
 
 mul-wide : tie.Need-mul-wide Inv-loop μ-loop
 mul-wide c = search needs
@@ -58,19 +66,19 @@ wide-requires : tie.Need-wide-requires Inv-loop μ-loop
 wide-requires c κs = search needs
 
 mul-have : tie.Need-mul-have Inv-loop μ-loop
-mul-have c = omega (arith, head-in (c .before .before .before .before))
+mul-have c = omega (arith, ends (c .before .before .before .before))
 
 element-copy-out-have : tie.Need-element-copy-out-have Inv-loop μ-loop
-element-copy-out-have c = omega (arith, head-in (c .before .before .before .before))
+element-copy-out-have c = omega (arith, ends (c .before .before .before .before))
 
 add-have : tie.Need-add-have Inv-loop μ-loop
-add-have c = omega (arith, low (c .before .before .before .before .before) (getD (c .before .before .before .before .before .before .before .args .heads .now) (c .before .before .before .before .before .before .loop .e) 0))
+add-have c = omega (arith, ends (c .before .before .before .before .before))
 
 mul-want : tie.Need-mul-want Inv-loop μ-loop
-mul-want c = omega (arith, tail-in (c .before .before .before .before .before))
+mul-want c = omega (arith, ends (c .before .before .before .before .before))
 
 element-copy-out-want : tie.Need-element-copy-out-want Inv-loop μ-loop
-element-copy-out-want c = omega (arith, tail-in (c .before .before .before .before .before))
+element-copy-out-want c = omega (arith, ends (c .before .before .before .before .before))
 
 mul-wide-2 : tie.Need-mul-wide-2 Inv-loop μ-loop
 mul-wide-2 c = search needs
@@ -82,16 +90,16 @@ wide-requires-2 : tie.Need-wide-requires-2 Inv-loop μ-loop
 wide-requires-2 c κs = search needs
 
 add-want : tie.Need-add-want Inv-loop μ-loop
-add-want c = omega (arith, low (c .before .before .before .before .before .before .before .before) (getD (c .before .before .before .before .before .before .before .before .before .before .args .tails .now) (c .before .before .before .before .before .before .before .before .before .loop .e) 0))
+add-want c = omega (arith, ends (c .before .before .before .before .before .before .before .before))
 
 sub-values : tie.Need-sub-values Inv-loop μ-loop
 sub-values c = search needs
 
 mul-values : tie.Need-mul-values Inv-loop μ-loop
-mul-values c = omega (arith, head-in (c .before .before .before .before .before .before .before .before .before))
+mul-values c = omega (arith, ends (c .before .before .before .before .before .before .before .before .before))
 
 element-write-values : tie.Need-element-write-values Inv-loop μ-loop
-element-write-values c = omega (arith, head-in (c .before .before .before .before .before .before .before .before .before))
+element-write-values c = omega (arith, ends (c .before .before .before .before .before .before .before .before .before))
 
 add-e : tie.Need-add-e Inv-loop μ-loop
 add-e c = search needs
@@ -105,19 +113,19 @@ loop-again c =
     let p = c .before in
     let g = p .before .before .before .before in
     let t = g .before .before .before .before in (
-      search needs,
       ⊎-elim
-          (λ w. sofar-asks _ _ _ _ _ (t .before .loop .inv .1) (t .loop-test .taken) _ _ _ _ (g .wide .ensures .0) (p .wide2 .ensures .0) (p .wide2 .ensures .1) (w .0 .taken) (w .1) (w .2))
-          (λ w. sofar-holds _ _ _ _ _ (t .before .loop .inv .1) (t .loop-test .taken) _ _ _ _ (g .wide .ensures .0) (p .wide2 .ensures .0) (w .0 .left) (w .1) (w .2))
+          (λ w. sofar-asks _ _ _ _ _ (t .before .loop .inv .0) (t .loop-test .taken) _ _ _ _ (g .wide .ensures .0) (p .wide2 .ensures .0) (p .wide2 .ensures .1) (w .0 .taken) (w .1) (w .2))
+          (λ w. sofar-holds _ _ _ _ _ (t .before .loop .inv .0) (t .loop-test .taken) _ _ _ _ (g .wide .ensures .0) (p .wide2 .ensures .0) (w .0 .left) (w .1) (w .2))
           (c .if1 .came),
+      search needs,
     )
 
 returns : tie.Need-returns Inv-loop μ-loop
 unfolding systemOf
 returns c =
     let t = c .before .loop .inv in
-    let a = sofar-all _ _ _ _ _ (t .1) (c .loop-test .left) in
-    (a .0, (a .1, λ b h v. omega (arith, t .1 .bound b h v)))
+    let a = sofar-all _ _ _ _ _ (t .0) (c .loop-test .left) in
+    record { is-raised = a .0; is-round = a .1; bound = λ b h v. omega (arith, t .0 .bound b h v) }
 
 pub one-round-spec : {M : Type 1} → statement M
 one-round-spec =
