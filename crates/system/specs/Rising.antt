@@ -1,7 +1,7 @@
 -- What an edge, a round and the rounds do to the values.
 -- Assumes nothing.
 use mathlib.Core.Path.{_≡_, refl, sym, _∙_, ap, subst}
-use mathlib.Core.Bool.{Bool, true, false, true≢false}
+use mathlib.Core.Bool.{true, false, true≢false}
 use mathlib.Core.Logic.{_⊎_, inl, inr, ⊎-elim}
 use mathlib.Core.List.{List, [], _∷_, _++_}
 use Prim.Native.Nat.{ℕ, zero, suc, _+_, _-_, _≤_, _<_, max}
@@ -9,18 +9,16 @@ use native.Mathlib.Omega.{arith}
 use native.Mathlib.Decide.{decLe, ℕ-discrete}
 use native.Mathlib.Nat.{not-suc-le-zero, le-of-suc-le-suc, eq-or-lt-of-le}
 use borrow.Author.Tests.{ltb-true, ltb-false, le-ltb, lt-ltb}
-use lib.Dec.{ltb}
 use lib.ListN.{length, getD, set, length-set}
 use lib.Seq.{getD-set-same, set-getD}
-use Rattle.lists.specs.Pick.{pick, pick-ind}
+use Rattle.lists.specs.Pick.{pick-ind}
 use Rattle.lists.specs.Span.{span}
 use Rattle.lists.specs.Fold.{fold, sumOf, sum-append}
 use Rattle.lists.specs.Place.{set-view}
-use Rattle.system.specs.Graph.{Graph, Joined, Walk}
+use Rattle.system.specs.Graph.{Joined, Walk}
 use Rattle.system.specs.System.{System, Solves, gains, costs}
 use Rattle.system.specs.Walks.{walk-join}
 use Rattle.system.specs.Rounds.{asks, raise, raiseAll, raises, everyEdge, round, settleFrom}
-use Rattle.system.specs.declared.Settled.{Settled}
 
 -- values as a function of the node
 abbrev pub valueOf : List ℕ → ℕ → ℕ

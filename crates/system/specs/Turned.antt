@@ -4,7 +4,7 @@ use mathlib.Core.Path.{_≡_}
 use mathlib.Core.Bool.{true}
 use Prim.Native.Nat.{ℕ, _+_, _-_, _≤_, _<_}
 use native.Mathlib.Omega.{arith}
-use lib.ListN.{length, getD, take}
+use lib.ListN.{length, take}
 use lib.Seq.{getD-take, length-take-le}
 use Rattle.lists.specs.Fold.{top, top-over, top-attained}
 use Rattle.system.specs.Graph.{Joined}
