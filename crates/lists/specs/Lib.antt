@@ -1,5 +1,6 @@
 pub mod Pick
 pub mod Span
 pub mod Fold
+pub mod First
 pub mod Pigeon
 pub mod Place

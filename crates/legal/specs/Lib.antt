@@ -1,0 +1,4 @@
+pub mod Loop
+pub mod Legal
+pub mod Systems
+pub mod Judging

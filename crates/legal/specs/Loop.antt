@@ -1,0 +1,56 @@
+-- A loop on its board, and a schedule of it: what a form holds, read by number.
+-- Assumes nothing.
+use Prim.Native.Nat.{ℕ, _+_}
+use lib.Dec.{eqb, leb}
+use lib.ListN.{getD}
+use Rattle.lists.specs.Pick.{pick}
+use Rattle.system.specs.Graph.{Graph}
+use Rattle.form.specs.declared.Form.{Form}
+use Rattle.form.specs.declared.Class.{Class}
+use Rattle.form.specs.declared.Node.{Node}
+use Rattle.form.specs.Places.{classOf, nodeOf, startOf, retimingOf}
+
+-- the graph with the delays of its edges, the classes of the board, the nodes
+pub record Loop : Type 0 where
+  pub graph : Graph
+  pub delay : ℕ → ℕ
+  pub classes : ℕ
+  pub class : ℕ → Class
+  pub node : ℕ → Node
+
+-- starts, length and retimings
+pub record Pair : Type 0 where
+  pub start : ℕ → ℕ
+  pub length : ℕ
+  pub retiming : ℕ → ℕ
+
+-- the class that node v runs on, and its latency
+abbrev pub runsOn : Loop → ℕ → ℕ
+runsOn g v = g .node v .class
+
+abbrev pub latency : Loop → ℕ → ℕ
+latency g v = g .class (runsOn g v) .latency
+
+-- how many steps an operation of a class occupies its unit: all of them on a plain class, the first alone on a pipelined one
+unfoldable pub hold : Class → ℕ
+hold k = pick (eqb (k .pipelined) 0) (k .latency) 1
+
+unfoldable pub graphOf : Form → Graph
+graphOf f = record {
+  nodes = f .nodes;
+  edges = f .edges;
+  tail = λ e. getD (f .from) e 0;
+  head = λ e. getD (f .to) e 0;
+}
+
+unfoldable pub loopOf : Form → Loop
+loopOf f = record {
+  graph = graphOf f;
+  delay = λ e. getD (f .delays) e 0;
+  classes = f .classes;
+  class = classOf f;
+  node = nodeOf f;
+}
+
+unfoldable pub pairOf : Form → Pair
+pairOf f = record { start = startOf f; length = f .length; retiming = retimingOf f }
