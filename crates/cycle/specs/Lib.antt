@@ -1,2 +1,3 @@
 pub mod Fewest
 pub mod Row
+pub mod Found

@@ -42,6 +42,7 @@ pub record From (s : System) (i : ℕ) (row next : List ℕ) (v : ℕ) : Type 0 
   pub looked : edge < i
   pub out : s .graph .tail edge ≡ v
   pub given : Gives s row edge (getD next v 0)
+  pub near : getD next v 0 ≤ getD row (s .graph .head edge) 0 + 65535
 
 -- the next row, after the edges below i
 pub record Carried (s : System) (i : ℕ) (row next : List ℕ) : Type 0 where
@@ -68,9 +69,11 @@ carried-none s row n = record {
 }
 
 -- one edge more
-pub carried-more : (s : System) (i : ℕ) (row next : List ℕ) → s .graph .tail i < length next → Carried s i row next
+pub carried-more : (s : System) (i : ℕ) (row next : List ℕ) → s .graph .tail i < length next
+    → getD row (s .graph .head i) 0 + s .cost i - s .gain i ≤ getD row (s .graph .head i) 0 + 65535
+    → Carried s i row next
     → Carried s (i + 1) row (set next (s .graph .tail i) (max (getD next (s .graph .tail i) 0) (getD row (s .graph .head i) 0 + s .cost i - s .gain i)))
-carried-more s i row next l c =
+carried-more s i row next l near c =
     let t : ℕ = s .graph .tail i in
     let x : ℕ = getD row (s .graph .head i) 0 + s .cost i - s .gain i in
     let y : ℕ = max (getD next t 0) x in
@@ -79,7 +82,7 @@ carried-more s i row next l c =
     λ v. ⊎-elim (λ w. omega (arith, ap (λ j. getD next j 0) (w .0))) (λ w. omega arith) (set-view next t y l v) in
     let own : getD new t 0 ≡ y = getD-set-same next t y 0 l in
     let kept : (v : ℕ) → getD new v 0 ≡ getD next v 0 → 0 < getD new v 0 → From s (i + 1) row new v =
-    λ v e q. let f = c .from v (omega arith) in record { edge = f .edge; looked = omega (arith, f .looked); out = f .out; given = omega (arith, f .given) } in
+    λ v e q. let f = c .from v (omega arith) in record { edge = f .edge; looked = omega (arith, f .looked); out = f .out; given = omega (arith, f .given); near = omega (arith, f .near) } in
     record {
       meets = λ e q.
           elim (ℕ-discrete i e) [
@@ -91,7 +94,7 @@ carried-more s i row next l c =
           (λ w.
           elim (decLe x (getD next t 0)) [
             | yes h ↦ kept v (omega (arith, ap (λ j. getD next j 0) (w .0))) q
-            | no h ↦ record { edge = i; looked = omega arith; out = w .0; given = omega arith }
+            | no h ↦ record { edge = i; looked = omega arith; out = w .0; given = omega arith; near = omega arith }
           ])
           (λ e. kept v e q)
           (set-view next t y l v);
@@ -114,14 +117,13 @@ row-none s n target l =
     over v (e ∷ es) w q = omega arith
 
 -- the row of one edge more
-pub row-more : (s : System) (target k : ℕ) (row next : List ℕ) → ((e : ℕ) → e < s .graph .edges → s .cost e ≤ 65535)
-    → Row s target k row → Carried s (s .graph .edges) row next → Row s target (k + 1) next
+pub row-more : (s : System) (target k : ℕ) (row next : List ℕ) → Row s target k row → Carried s (s .graph .edges) row next → Row s target (k + 1) next
 unfolding gains costs sumOf
-row-more s target k row next small r c = record {
+row-more s target k row next r c = record {
   over = over;
   worth = λ v q.
       let f = c .from v (omega arith) in
-      let p = r .worth (s .graph .head (f .edge)) (omega (arith, f .given, small (f .edge) (f .looked))) in
+      let p = r .worth (s .graph .head (f .edge)) (omega (arith, f .given, f .near)) in
       record {
         path = f .edge ∷ p .path;
         walk = (f .looked, f .out, p .walk);
@@ -130,7 +132,7 @@ row-more s target k row next small r c = record {
       };
   cap = λ v.
       elim (decLt 0 (getD next v 0)) [
-        | yes h ↦ let f = c .from v h in omega (arith, f .given, small (f .edge) (f .looked), r .cap (s .graph .head (f .edge)))
+        | yes h ↦ let f = c .from v h in omega (arith, f .given, f .near, r .cap (s .graph .head (f .edge)))
         | no h ↦ omega arith
       ];
 }

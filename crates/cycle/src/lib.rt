@@ -1,6 +1,15 @@
 // From a system of constraints, a losing cycle with the fewest edges of all losing closed walks.
 // A row holds, for a target node and a number of edges, at each node the most that a walk of so many edges from there
 // to the target costs above what it gains, raised by BASE. What starts elsewhere starts at 0, too low to get there.
+ghost use mathlib.Core.Path.{_≡_};
+ghost use Prim.Native.Nat.{ℕ, _+_, _-_, _≤_, _<_, max};
+ghost use mathlib.Core.Bool.{true};
+ghost use lib.Dec.{leb};
+ghost use lib.ListN.{getD, set, replicate};
+ghost use Rattle.system.specs.Graph.{Joined};
+ghost use Rattle.system.specs.System.{systemOf};
+ghost use Rattle.cycle.specs.Row.{base, Worth, Row, Carried};
+ghost use Rattle.cycle.specs.Found.{FewestAt, BestStart, NextEdge, ClosedWalk, FoundCycle};
 use answer::Cycle;
 
 // More than twice what 64 edges can cost or gain.
@@ -12,7 +21,9 @@ struct Start {
     count: u8,
 }
 
-fn larger(a: u32, b: u32) -> u32 {
+fn larger(a: u32, b: u32) -> u32
+    ensures { λ r. ⌜ r ≡ max a b ⌝ }
+{
     if a < b {
         return b;
     }
@@ -20,12 +31,23 @@ fn larger(a: u32, b: u32) -> u32 {
 }
 
 // A value one edge earlier: up by the edge's cost, down by its gain, no lower than 0.
-fn carried(value: u32, gain: u16, cost: u16) -> u32 {
+fn carried(value: u32, gain: u16, cost: u16) -> u32
+    requires { ⌜ value ≤ 16777216 ⌝ }
+    ensures { λ r. ⌜ (r ≡ value + cost - gain) × (r ≤ value + 65535) ⌝ }
+{
     let up = value + cost as u32;
     if up < gain as u32 {
         return 0;
     }
     up - gain as u32
+}
+
+// Whether an edge with this gain and cost gives at least the value, from what stands ahead of it.
+fn gives(ahead: u32, gain: u16, cost: u16, value: u32) -> bool
+    requires { ⌜ (ahead ≤ 16777216) × (value ≤ 16777216) ⌝ }
+    ensures { λ r. ⌜ (r ≡ leb (value + gain) (ahead + cost)) × (r ≡ true → value ≤ ahead + 65535) ⌝ }
+{
+    value + gain as u32 <= ahead + cost as u32
 }
 
 // The row of one edge more.
@@ -36,7 +58,10 @@ fn next_row<'a>(
     gains: &'a [u16; 256],
     costs: &'a [u16; 256],
     row: &'a [u32; 64],
-) -> [u32; 64] {
+) -> [u32; 64]
+    requires { ⌜ (edges ≤ 256) × (Joined ((systemOf 64 edges (now tails) (now heads) (now gains) (now costs)) .graph)) × ((v : ℕ) → getD (now row) v 0 ≤ 16777216) ⌝ }
+    ensures { λ r. ⌜ Carried (systemOf 64 edges (now (tails .entry)) (now (heads .entry)) (now (gains .entry)) (now (costs .entry))) edges (now (row .entry)) r ⌝ }
+{
     let mut next = [0u32; 64];
     let mut e: u16 = 0;
     while e < edges {
@@ -50,7 +75,10 @@ fn next_row<'a>(
 }
 
 // The row of no edge: only the target itself is there.
-fn first_row(target: u8) -> [u32; 64] {
+fn first_row(target: u8) -> [u32; 64]
+    requires { ⌜ target < 64 ⌝ }
+    ensures { λ r. ⌜ r ≡ set (replicate 64 0) target base ⌝ }
+{
     let mut row = [0u32; 64];
     row[target as usize] = BASE;
     row
@@ -65,7 +93,10 @@ fn row_of<'a>(
     costs: &'a [u16; 256],
     target: u8,
     count: u8,
-) -> [u32; 64] {
+) -> [u32; 64]
+    requires { ⌜ (edges ≤ 256) × (Joined ((systemOf 64 edges (now tails) (now heads) (now gains) (now costs)) .graph)) × (target < 64) × (count ≤ 64) ⌝ }
+    ensures { λ r. ⌜ Row (systemOf 64 edges (now (tails .entry)) (now (heads .entry)) (now (gains .entry)) (now (costs .entry))) target count r ⌝ }
+{
     let mut row = first_row(target);
     let mut k: u8 = 0;
     while k < count {
@@ -84,7 +115,10 @@ fn fewest_at<'a>(
     costs: &'a [u16; 256],
     node: u8,
     limit: u8,
-) -> u8 {
+) -> u8
+    requires { ⌜ (edges ≤ 256) × (Joined ((systemOf 64 edges (now tails) (now heads) (now gains) (now costs)) .graph)) × (node < 64) × (0 < limit) × (limit ≤ 65) ⌝ }
+    ensures { λ r. ⌜ FewestAt (systemOf 64 edges (now (tails .entry)) (now (heads .entry)) (now (gains .entry)) (now (costs .entry))) node limit r ⌝ }
+{
     let mut row = first_row(node);
     let mut k: u8 = 1;
     while k < limit {
@@ -105,7 +139,10 @@ fn best_start<'a>(
     heads: &'a [u8; 256],
     gains: &'a [u16; 256],
     costs: &'a [u16; 256],
-) -> Start {
+) -> Start
+    requires { ⌜ (edges ≤ 256) × (Joined ((systemOf 64 edges (now tails) (now heads) (now gains) (now costs)) .graph)) × (nodes ≤ 64) ⌝ }
+    ensures { λ r. ⌜ BestStart (systemOf 64 edges (now (tails .entry)) (now (heads .entry)) (now (gains .entry)) (now (costs .entry))) nodes (r .node) (r .count) ⌝ }
+{
     let mut best = nodes + 1;
     let mut at: u8 = 0;
     let mut node: u8 = 0;
@@ -133,13 +170,16 @@ fn next_edge<'a>(
     row: &'a [u32; 64],
     node: u8,
     value: u32,
-) -> u16 {
+) -> u16
+    requires { ⌜ (edges ≤ 256) × (Joined ((systemOf 64 edges (now tails) (now heads) (now gains) (now costs)) .graph)) × ((v : ℕ) → getD (now row) v 0 ≤ 16777216) × (value ≤ 16777216) ⌝ }
+    ensures { λ r. ⌜ NextEdge (systemOf 64 edges (now (tails .entry)) (now (heads .entry)) (now (gains .entry)) (now (costs .entry))) (now (row .entry)) node value r ⌝ }
+{
     let mut e: u16 = 0;
     while e < edges {
         let i = e as usize;
         let v = heads[i] as usize;
         if tails[i] == node {
-            if value + gains[i] as u32 <= row[v] + costs[i] as u32 {
+            if gives(row[v], gains[i], costs[i], value) {
                 return e;
             }
         }
@@ -157,7 +197,10 @@ fn walk_of<'a>(
     costs: &'a [u16; 256],
     start: u8,
     count: u8,
-) -> Cycle {
+) -> Cycle
+    requires { ⌜ (edges ≤ 256) × (Joined ((systemOf 64 edges (now tails) (now heads) (now gains) (now costs)) .graph)) × (start < 64) × (count ≤ 64) × Worth (systemOf 64 edges (now tails) (now heads) (now gains) (now costs)) start count start (base + 1) ⌝ }
+    ensures { λ r. ⌜ ClosedWalk (systemOf 64 edges (now (tails .entry)) (now (heads .entry)) (now (gains .entry)) (now (costs .entry))) count r ⌝ }
+{
     let mut found = [0u16; 64];
     let mut node = start;
     let mut value = BASE + 1;
@@ -184,7 +227,10 @@ pub fn shortest_cycle<'a>(
     heads: &'a [u8; 256],
     gains: &'a [u16; 256],
     costs: &'a [u16; 256],
-) -> Cycle {
+) -> Cycle
+    requires { ⌜ (0 < nodes) × (nodes ≤ 64) × (edges ≤ 256) × (Joined ((systemOf nodes edges (now tails) (now heads) (now gains) (now costs)) .graph)) ⌝ }
+    ensures { λ r. ⌜ FoundCycle (systemOf nodes edges (now (tails .entry)) (now (heads .entry)) (now (gains .entry)) (now (costs .entry))) r ⌝ }
+{
     let start = best_start(nodes, edges, tails, heads, gains, costs);
     if nodes < start.count {
         return Cycle {

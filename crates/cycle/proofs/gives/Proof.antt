@@ -1,0 +1,20 @@
+use borrow.Author.Needs.{needs}
+use Rattle.cycle.proofs.gives.Statement.{statement}
+use Rattle.cycle.proofs.gives.Tie as tie
+use Rattle.cycle.proofs.gives.Reads as reads
+use Rattle.cycle.proofs.gives.Lts as lts
+
+-- src/lib.rt:50:5
+add-result : tie.Need-add-result
+add-result c = search needs
+
+-- src/lib.rt:50:28
+add-result-2 : tie.Need-add-result-2
+add-result-2 c = search needs
+
+-- src/lib.rt:46:1
+returns : tie.Need-returns
+returns c = ?
+
+pub gives-spec : {M : Type 1} → statement M
+gives-spec = tie.close (tie.spec add-result add-result-2 returns)
