@@ -94,6 +94,17 @@ begins : (g : Graph) (u : ℕ) (es : List ℕ) (v : ℕ) → Walk g u es v → 0
 begins g u [] v w l = absurd (not-suc-le-zero l)
 begins g u (e ∷ es) v w l = sym (w .1)
 
+-- and so at a node of the graph
+pub losing-from : (s : System) → Joined (s .graph) → (es : List ℕ) (w : LosingWalk s es) → w .from < s .graph .nodes
+losing-from s j es w =
+    let g : Graph = s .graph in
+    let some : 0 < length es = losing-some s es w in
+    omega (
+      arith,
+      begins g (w .from) es (w .from) (w .closed) some,
+      j .tails (getD es 0 0) (walk-edge g (w .from) es (w .from) 0 (w .closed) some),
+    )
+
 -- a losing closed walk with the fewest edges of all is a cycle
 pub fewest-is-cycle : (s : System) (es : List ℕ) → LosingWalk s es
     → ((fs : List ℕ) → LosingWalk s fs → length es ≤ length fs) → Shortest s es

@@ -5,6 +5,7 @@ use mathlib.Core.List.{List, [], _∷_}
 use Prim.Native.Nat.{ℕ, _+_, _≤_, _<_}
 use lib.ListN.{getD, take, length}
 use native.Mathlib.Omega.{arith}
+use borrow.Author.Count.{below-none, below-more}
 use native.Mathlib.Decide.{decLt}
 use Rattle.lists.specs.Fold.{sumOf}
 use Rattle.answer.specs.declared.Cycle.{Cycle}
@@ -18,15 +19,17 @@ NoneBelow s node n = (es : List ℕ) → Walk (s .graph) node es node → length
 
 -- the fewest edges of a losing closed walk through the node, where they are below the limit, else the limit
 pub record FewestAt (s : System) (node limit r : ℕ) : Type 0 where
+  pub some : 0 < r
   pub within : r ≤ limit
   pub fewer : NoneBelow s node r
   pub found : r < limit → Worth s node r node (base + 1)
 
--- a node below n with the fewest, where they are at most n, else a count of n + 1
-pub record BestStart (s : System) (n node count : ℕ) : Type 0 where
+-- of the nodes below `seen` one with the fewest, where they are at most n, else a count of n + 1
+pub record BestStart (s : System) (n seen node count : ℕ) : Type 0 where
+  pub some : 0 < count
   pub within : count ≤ n + 1
-  pub fewer : (v : ℕ) → v < n → NoneBelow s v count
-  pub inside : count ≤ n → node < n
+  pub fewer : (v : ℕ) → v < seen → NoneBelow s v count
+  pub inside : count ≤ n → node < seen
   pub found : count ≤ n → Worth s node count node (base + 1)
 
 -- the first edge out of the node that gives the value, or the number of edges
@@ -67,3 +70,35 @@ module _ (s : System) (node k : ℕ) (row : List ℕ) (r : Row s node k row) whe
   loses high few =
       let w = r .worth node (omega arith) in
       record { path = w .path; walk = w .walk; size = w .size; enough = omega (arith, w .enough) }
+
+pub best-none : (s : System) (n node : ℕ) → BestStart s n 0 node (n + 1)
+best-none s n node = record {
+  some = omega arith;
+  within = omega arith;
+  fewer = below-none _;
+  inside = λ l. absurd (omega arith);
+  found = λ l. absurd (omega arith);
+}
+
+-- one node more, the node i: better than the best so far, or not
+module _ (s : System) (n i node count r : ℕ) (b : BestStart s n i node count) (f : FewestAt s i count r) where
+  all-below : (v : ℕ) → v < i + 1 → NoneBelow s v r
+  all-below = below-more (λ v. NoneBelow s v r) i (λ v l es w q. b .fewer v l es w (omega (arith, f .within))) (f .fewer)
+
+  pub best-better : r < count → BestStart s n (i + 1) i r
+  best-better l = record {
+    some = f .some;
+    within = omega (arith, b .within);
+    fewer = all-below;
+    inside = λ q. omega arith;
+    found = λ q. f .found l;
+  }
+
+  pub best-kept : count ≤ r → BestStart s n (i + 1) node count
+  best-kept l = record {
+    some = b .some;
+    within = b .within;
+    fewer = λ v q es w h. all-below v q es w (omega arith);
+    inside = λ q. omega (arith, b .inside q);
+    found = b .found;
+  }

@@ -57,7 +57,7 @@ set-view xs i x l v =
       | no h ↦ inr (getD-set-other xs i v x 0 (λ e. h (sym e)))
     ]
 
-zeros-at : (n v : ℕ) → _≡_ {A = ℕ} (getD (replicate n 0) v 0) 0
+pub zeros-at : (n v : ℕ) → _≡_ {A = ℕ} (getD (replicate n 0) v 0) 0
 zeros-at zero v = refl
 zeros-at (suc n) zero = refl
 zeros-at (suc n) (suc v) = zeros-at n v

@@ -141,7 +141,7 @@ fn best_start<'a>(
     costs: &'a [u16; 256],
 ) -> Start
     requires { ⌜ (edges ≤ 256) × (Joined ((systemOf 64 edges (now tails) (now heads) (now gains) (now costs)) .graph)) × (nodes ≤ 64) ⌝ }
-    ensures { λ r. ⌜ BestStart (systemOf 64 edges (now (tails .entry)) (now (heads .entry)) (now (gains .entry)) (now (costs .entry))) nodes (r .node) (r .count) ⌝ }
+    ensures { λ r. ⌜ BestStart (systemOf 64 edges (now (tails .entry)) (now (heads .entry)) (now (gains .entry)) (now (costs .entry))) nodes nodes (r .node) (r .count) ⌝ }
 {
     let mut best = nodes + 1;
     let mut at: u8 = 0;

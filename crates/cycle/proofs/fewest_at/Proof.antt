@@ -58,7 +58,7 @@ returns : tie.Need-returns Inv-loop μ-loop
 returns c =
     let d = c .before in
     let i = d .before .before .before in
-    record { within = omega arith; fewer = i .loop .inv .3; found = λ l. loses _ _ _ _ (next d) (c .if1 .taken) (omega arith) }
+    record { some = omega arith; within = omega arith; fewer = i .loop .inv .3; found = λ l. loses _ _ _ _ (next d) (c .if1 .taken) (omega arith) }
 
 -- src/lib.rt:128:9
 add-k : tie.Need-add-k Inv-loop μ-loop
@@ -79,7 +79,7 @@ loop-again c =
 
 -- src/lib.rt:109:1
 returns-2 : tie.Need-returns-2 Inv-loop μ-loop
-returns-2 c = record { within = omega arith; fewer = c .before .loop .inv .3; found = λ l. absurd (omega arith) }
+returns-2 c = record { some = omega arith; within = omega arith; fewer = c .before .loop .inv .3; found = λ l. absurd (omega arith) }
 
 pub fewest-at-spec : {M : Type 1} → statement M
 fewest-at-spec =
