@@ -3,23 +3,26 @@
 -- Assumes nothing.
 use mathlib.Core.Path.{_≡_}
 use mathlib.Core.List.{List, [], _∷_}
-use Prim.Native.Nat.{ℕ, _+_, _≤_, _<_}
+use Prim.Native.Nat.{ℕ, _≤_, _<_}
 use lib.ListN.{length, getD, take, length-take}
 use native.Mathlib.Omega.{arith}
 use native.Mathlib.Decide.{decLe}
 use Rattle.answer.specs.declared.Cycle.{Cycle}
 use Rattle.system.specs.Graph.{Walk, Joined}
-use Rattle.system.specs.System.{System, systemOf, gains, costs, LosingWalk, Shortest}
+use Rattle.system.specs.System.{System, systemOf, gains, costs, LosingWalk}
 use Rattle.cycle.specs.Fewest.{losing-from, losing-within, fewest-is-cycle}
-use Rattle.cycle.specs.Found.{BestStart, ClosedWalk, FoundCycle}
+use Rattle.cycle.specs.Found.{Tables, BestStart, ClosedWalk, FoundCycle}
 
 module _ (e : ℕ) (ts hs gs cs : List ℕ) where
   abbrev among : ℕ → System
   among n = systemOf n e ts hs gs cs
 
-  pub joined-among : (m n : ℕ) → m ≤ n → Joined (among m .graph) → Joined (among n .graph)
+  pub tables : (n : ℕ) → n ≤ 64 → e ≤ 256 → Joined (among n .graph) → Tables e ts hs gs cs
   unfolding systemOf
-  joined-among m n l j = record { tails = λ i q. omega (arith, j .tails i q); heads = λ i q. omega (arith, j .heads i q) }
+  tables n l few j = record {
+    few = few;
+    joined = record { tails = λ i q. omega (arith, j .tails i q); heads = λ i q. omega (arith, j .heads i q) };
+  }
 
   walk-among : (m n u : ℕ) (es : List ℕ) (v : ℕ) → Walk (among m .graph) u es v → Walk (among n .graph) u es v
   unfolding systemOf

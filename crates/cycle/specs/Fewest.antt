@@ -2,18 +2,17 @@
 -- So one with the fewest edges is a cycle, and where there is any there is one with no more edges than nodes.
 -- Assumes nothing.
 use mathlib.Core.Path.{_≡_, refl, sym, _∙_, ap, subst}
-use mathlib.Core.Logic.{_≢_}
 use mathlib.Core.List.{List, [], _∷_, _++_}
 use Prim.Native.Nat.{ℕ, zero, suc, _+_, _-_, _≤_, _<_}
 use lib.ListN.{length, getD, take, drop, length-append, length-take, length-drop, take-append-drop}
 use lib.Seq.{getD-drop}
 use native.Mathlib.Omega.{arith}
 use native.Mathlib.Decide.{decLe, decLt}
-use native.Mathlib.Nat.{not-suc-le-zero, le-of-suc-le-suc, lt-of-not-le}
+use native.Mathlib.Nat.{not-suc-le-zero, le-of-suc-le-suc}
 use Rattle.lists.specs.Fold.{sumOf, sum-append}
 use Rattle.lists.specs.Pigeon.{pigeon, Twice}
-use Rattle.system.specs.Graph.{Graph, Joined, Walk, stop, Cycle}
-use Rattle.system.specs.System.{System, gains, costs, Losing, LosingWalk, Shortest}
+use Rattle.system.specs.Graph.{Graph, Joined, Walk, stop}
+use Rattle.system.specs.System.{System, gains, costs, LosingWalk, Shortest}
 
 module _ (g : Graph) where
   -- every edge of a walk is one of the graph

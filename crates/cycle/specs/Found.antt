@@ -9,9 +9,18 @@ use borrow.Author.Count.{below-none, below-more}
 use native.Mathlib.Decide.{decLt}
 use Rattle.lists.specs.Fold.{sumOf}
 use Rattle.answer.specs.declared.Cycle.{Cycle}
-use Rattle.system.specs.Graph.{Walk}
-use Rattle.system.specs.System.{System, gains, costs, LosingWalk, Shortest}
+use Rattle.system.specs.Graph.{Walk, Joined}
+use Rattle.system.specs.System.{System, systemOf, gains, costs, LosingWalk, Shortest}
 use Rattle.cycle.specs.Row.{base, Worth, Row, Gives}
+
+-- the system that tables hold, read as one of 64 nodes: a row has a place for each
+abbrev pub wide : ℕ → List ℕ → List ℕ → List ℕ → List ℕ → System
+wide e tails heads gs cs = systemOf 64 e tails heads gs cs
+
+-- at most 256 edges, among 64 nodes
+pub record Tables (e : ℕ) (tails heads gs cs : List ℕ) : Type 0 where
+  pub few : e ≤ 256
+  pub joined : Joined (wide e tails heads gs cs .graph)
 
 -- no closed walk of fewer than n edges through the node loses
 abbrev pub NoneBelow : System → ℕ → ℕ → Type 0

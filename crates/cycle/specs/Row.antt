@@ -2,22 +2,26 @@
 -- target costs above what it gains, raised by a base. A value that starts elsewhere than at the target starts at 0,
 -- and rises by at most 65535 with each edge: it stays below what the target's can fall to.
 -- Assumes nothing.
-use mathlib.Core.Path.{_≡_, refl, sym, _∙_, ap, subst}
+use mathlib.Core.Path.{_≡_, refl, sym, ap, subst}
 use mathlib.Core.Logic.{_⊎_, inl, inr, ⊎-elim}
 use mathlib.Core.List.{List, [], _∷_}
 use Prim.Native.Nat.{ℕ, zero, suc, _+_, _-_, _*_, _≤_, _<_, max}
-use lib.ListN.{length, getD, set, replicate, length-replicate, getD-replicate}
+use lib.ListN.{length, getD, set, replicate, length-replicate}
 use lib.Seq.{getD-set-same, getD-set-other}
 use native.Mathlib.Omega.{arith}
 use native.Mathlib.Decide.{decLe, decLt, ℕ-discrete}
-use native.Mathlib.Nat.{not-suc-le-zero, le-of-suc-le-suc}
+use native.Mathlib.Nat.{not-suc-le-zero}
 use Rattle.lists.specs.Fold.{sumOf}
-use Rattle.system.specs.Graph.{Graph, Walk}
+use Rattle.system.specs.Graph.{Walk}
 use Rattle.system.specs.System.{System, gains, costs}
 
 -- more than twice what 64 edges can cost
 abbrev pub base : ℕ
 base = 8388608
+
+-- above every value of a row
+abbrev pub roof : ℕ
+roof = 16777216
 
 -- a walk of k edges from v to the target that is worth the value
 pub record Worth (s : System) (target k v value : ℕ) : Type 0 where

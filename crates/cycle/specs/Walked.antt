@@ -1,8 +1,8 @@
 -- A losing closed walk read off rows, edge by edge: each row is for one edge fewer, and tells which edges keep the value.
 -- Assumes nothing.
-use mathlib.Core.Path.{_≡_, refl, sym, subst}
+use mathlib.Core.Path.{_≡_, refl, subst}
 use mathlib.Core.List.{List, [], _∷_, _++_}
-use Prim.Native.Nat.{ℕ, zero, suc, _+_, _*_, _≤_, _<_}
+use Prim.Native.Nat.{ℕ, _+_, _*_, _≤_, _<_}
 use lib.ListN.{length, getD, set, take, replicate}
 use lib.Seq.{take-suc-set, getD-set-other}
 use native.Mathlib.Numerals.{add-one}
@@ -12,7 +12,7 @@ use Rattle.lists.specs.Fold.{sumOf, sum-append}
 use Rattle.system.specs.Graph.{Walk}
 use Rattle.system.specs.System.{System, gains, costs, LosingWalk}
 use Rattle.cycle.specs.Fewest.{walk-join}
-use Rattle.cycle.specs.Row.{base, Worth, Row, Gives, zeros-at}
+use Rattle.cycle.specs.Row.{base, Worth, Row, zeros-at}
 use Rattle.cycle.specs.Found.{NextEdge}
 
 -- after i edges, from the start to the node, with `left` more to go

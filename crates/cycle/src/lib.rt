@@ -8,8 +8,8 @@ ghost use lib.Dec.{leb};
 ghost use lib.ListN.{getD, set, replicate};
 ghost use Rattle.system.specs.Graph.{Joined};
 ghost use Rattle.system.specs.System.{systemOf};
-ghost use Rattle.cycle.specs.Row.{base, Worth, Row, Carried};
-ghost use Rattle.cycle.specs.Found.{FewestAt, BestStart, NextEdge, ClosedWalk, FoundCycle};
+ghost use Rattle.cycle.specs.Row.{base, roof, Worth, Row, Carried};
+ghost use Rattle.cycle.specs.Found.{Tables, wide, FewestAt, BestStart, NextEdge, ClosedWalk, FoundCycle};
 use answer::Cycle;
 
 // More than twice what 64 edges can cost or gain.
@@ -32,7 +32,7 @@ fn larger(a: u32, b: u32) -> u32
 
 // A value one edge earlier: up by the edge's cost, down by its gain, no lower than 0.
 fn carried(value: u32, gain: u16, cost: u16) -> u32
-    requires { ⌜ value ≤ 16777216 ⌝ }
+    requires { ⌜ value ≤ roof ⌝ }
     ensures { λ r. ⌜ (r ≡ value + cost - gain) × (r ≤ value + 65535) ⌝ }
 {
     let up = value + cost as u32;
@@ -44,7 +44,7 @@ fn carried(value: u32, gain: u16, cost: u16) -> u32
 
 // Whether an edge with this gain and cost gives at least the value, from what stands ahead of it.
 fn gives(ahead: u32, gain: u16, cost: u16, value: u32) -> bool
-    requires { ⌜ (ahead ≤ 16777216) × (value ≤ 16777216) ⌝ }
+    requires { ⌜ (ahead ≤ roof) × (value ≤ roof) ⌝ }
     ensures { λ r. ⌜ (r ≡ leb (value + gain) (ahead + cost)) × (r ≡ true → value ≤ ahead + 65535) ⌝ }
 {
     value + gain as u32 <= ahead + cost as u32
@@ -59,8 +59,8 @@ fn next_row<'a>(
     costs: &'a [u16; 256],
     row: &'a [u32; 64],
 ) -> [u32; 64]
-    requires { ⌜ (edges ≤ 256) × (Joined ((systemOf 64 edges (now tails) (now heads) (now gains) (now costs)) .graph)) × ((v : ℕ) → getD (now row) v 0 ≤ 16777216) ⌝ }
-    ensures { λ r. ⌜ Carried (systemOf 64 edges (now (tails .entry)) (now (heads .entry)) (now (gains .entry)) (now (costs .entry))) edges (now (row .entry)) r ⌝ }
+    requires { ⌜ Tables edges (now tails) (now heads) (now gains) (now costs) × ((v : ℕ) → getD (now row) v 0 ≤ roof) ⌝ }
+    ensures { λ r. ⌜ Carried (wide edges (now (tails .entry)) (now (heads .entry)) (now (gains .entry)) (now (costs .entry))) edges (now (row .entry)) r ⌝ }
 {
     let mut next = [0u32; 64];
     let mut e: u16 = 0;
@@ -94,8 +94,8 @@ fn row_of<'a>(
     target: u8,
     count: u8,
 ) -> [u32; 64]
-    requires { ⌜ (edges ≤ 256) × (Joined ((systemOf 64 edges (now tails) (now heads) (now gains) (now costs)) .graph)) × (target < 64) × (count ≤ 64) ⌝ }
-    ensures { λ r. ⌜ Row (systemOf 64 edges (now (tails .entry)) (now (heads .entry)) (now (gains .entry)) (now (costs .entry))) target count r ⌝ }
+    requires { ⌜ Tables edges (now tails) (now heads) (now gains) (now costs) × (target < 64) × (count ≤ 64) ⌝ }
+    ensures { λ r. ⌜ Row (wide edges (now (tails .entry)) (now (heads .entry)) (now (gains .entry)) (now (costs .entry))) target count r ⌝ }
 {
     let mut row = first_row(target);
     let mut k: u8 = 0;
@@ -116,8 +116,8 @@ fn fewest_at<'a>(
     node: u8,
     limit: u8,
 ) -> u8
-    requires { ⌜ (edges ≤ 256) × (Joined ((systemOf 64 edges (now tails) (now heads) (now gains) (now costs)) .graph)) × (node < 64) × (0 < limit) × (limit ≤ 65) ⌝ }
-    ensures { λ r. ⌜ FewestAt (systemOf 64 edges (now (tails .entry)) (now (heads .entry)) (now (gains .entry)) (now (costs .entry))) node limit r ⌝ }
+    requires { ⌜ Tables edges (now tails) (now heads) (now gains) (now costs) × (node < 64) × (0 < limit) × (limit ≤ 65) ⌝ }
+    ensures { λ r. ⌜ FewestAt (wide edges (now (tails .entry)) (now (heads .entry)) (now (gains .entry)) (now (costs .entry))) node limit r ⌝ }
 {
     let mut row = first_row(node);
     let mut k: u8 = 1;
@@ -140,8 +140,8 @@ fn best_start<'a>(
     gains: &'a [u16; 256],
     costs: &'a [u16; 256],
 ) -> Start
-    requires { ⌜ (edges ≤ 256) × (Joined ((systemOf 64 edges (now tails) (now heads) (now gains) (now costs)) .graph)) × (nodes ≤ 64) ⌝ }
-    ensures { λ r. ⌜ BestStart (systemOf 64 edges (now (tails .entry)) (now (heads .entry)) (now (gains .entry)) (now (costs .entry))) nodes nodes (r .node) (r .count) ⌝ }
+    requires { ⌜ Tables edges (now tails) (now heads) (now gains) (now costs) × (nodes ≤ 64) ⌝ }
+    ensures { λ r. ⌜ BestStart (wide edges (now (tails .entry)) (now (heads .entry)) (now (gains .entry)) (now (costs .entry))) nodes nodes (r .node) (r .count) ⌝ }
 {
     let mut best = nodes + 1;
     let mut at: u8 = 0;
@@ -171,8 +171,8 @@ fn next_edge<'a>(
     node: u8,
     value: u32,
 ) -> u16
-    requires { ⌜ (edges ≤ 256) × (Joined ((systemOf 64 edges (now tails) (now heads) (now gains) (now costs)) .graph)) × ((v : ℕ) → getD (now row) v 0 ≤ 16777216) × (value ≤ 16777216) ⌝ }
-    ensures { λ r. ⌜ NextEdge (systemOf 64 edges (now (tails .entry)) (now (heads .entry)) (now (gains .entry)) (now (costs .entry))) (now (row .entry)) node value r ⌝ }
+    requires { ⌜ Tables edges (now tails) (now heads) (now gains) (now costs) × ((v : ℕ) → getD (now row) v 0 ≤ roof) × (value ≤ roof) ⌝ }
+    ensures { λ r. ⌜ NextEdge (wide edges (now (tails .entry)) (now (heads .entry)) (now (gains .entry)) (now (costs .entry))) (now (row .entry)) node value r ⌝ }
 {
     let mut e: u16 = 0;
     while e < edges {
@@ -198,8 +198,8 @@ fn walk_of<'a>(
     start: u8,
     count: u8,
 ) -> Cycle
-    requires { ⌜ (edges ≤ 256) × (Joined ((systemOf 64 edges (now tails) (now heads) (now gains) (now costs)) .graph)) × (start < 64) × (count ≤ 64) × Worth (systemOf 64 edges (now tails) (now heads) (now gains) (now costs)) start count start (base + 1) ⌝ }
-    ensures { λ r. ⌜ ClosedWalk (systemOf 64 edges (now (tails .entry)) (now (heads .entry)) (now (gains .entry)) (now (costs .entry))) count r ⌝ }
+    requires { ⌜ Tables edges (now tails) (now heads) (now gains) (now costs) × (start < 64) × (count ≤ 64) × Worth (wide edges (now tails) (now heads) (now gains) (now costs)) start count start (base + 1) ⌝ }
+    ensures { λ r. ⌜ ClosedWalk (wide edges (now (tails .entry)) (now (heads .entry)) (now (gains .entry)) (now (costs .entry))) count r ⌝ }
 {
     let mut found = [0u16; 64];
     let mut node = start;
@@ -228,7 +228,7 @@ pub fn shortest_cycle<'a>(
     gains: &'a [u16; 256],
     costs: &'a [u16; 256],
 ) -> Cycle
-    requires { ⌜ (0 < nodes) × (nodes ≤ 64) × (edges ≤ 256) × (Joined ((systemOf nodes edges (now tails) (now heads) (now gains) (now costs)) .graph)) ⌝ }
+    requires { ⌜ (nodes ≤ 64) × (edges ≤ 256) × (Joined ((systemOf nodes edges (now tails) (now heads) (now gains) (now costs)) .graph)) ⌝ }
     ensures { λ r. ⌜ FoundCycle (systemOf nodes edges (now (tails .entry)) (now (heads .entry)) (now (gains .entry)) (now (costs .entry))) r ⌝ }
 {
     let start = best_start(nodes, edges, tails, heads, gains, costs);

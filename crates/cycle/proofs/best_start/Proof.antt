@@ -2,45 +2,35 @@
 -- Assumes nothing.
 use mathlib.Core.Path.{_≡_}
 use mathlib.Core.Logic.{⊎-elim}
-use Prim.Native.Nat.{ℕ, _≤_, _<_, _+_, _-_}
+use Prim.Native.Nat.{_≤_, _-_}
 use native.Mathlib.Omega.{arith}
 use borrow.Author.Needs.{needs}
-use Rattle.system.specs.System.{systemOf}
-use Rattle.cycle.specs.Found.{BestStart, best-none, best-better, best-kept}
+use Rattle.cycle.specs.Found.{wide, BestStart, best-none, best-better, best-kept}
 use Rattle.cycle.proofs.best_start.Statement.{statement}
 use Rattle.cycle.proofs.best_start.Tie as tie
-use Rattle.cycle.proofs.best_start.Reads as reads
-use Rattle.cycle.proofs.best_start.Lts as lts
-use Rattle.cycle.proofs.fewest_at.Reads as fewest-at-reads
 
 abbrev Inv-loop : tie.InvT-loop
 Inv-loop nodes edges tails heads gains costs best₀ at₀ node₀ best at node =
-    (node ≤ nodes) × BestStart (systemOf 64 edges tails heads gains costs) nodes node at best
+    (node ≤ nodes) × BestStart (wide edges tails heads gains costs) nodes node at best
 
 abbrev μ-loop : tie.MeasureT-loop
 μ-loop nodes edges tails heads gains costs best₀ at₀ node₀ best at node = nodes - node
 
--- src/lib.rt:146:20
 add-best : tie.Need-add-best Inv-loop μ-loop
 add-best c = search needs
 
--- src/lib.rt:149:5
 loop-holds : tie.Need-loop-holds Inv-loop μ-loop
 loop-holds c = (omega arith, best-none _ _ _)
 
--- src/lib.rt:150:13
 fewest-at-requires : tie.Need-fewest-at-requires Inv-loop μ-loop
-fewest-at-requires c κs = let p = c .before .before .pre in (p .0, p .1, omega arith, omega arith, omega arith)
+fewest-at-requires c κs = let p = c .before .before .pre in (p .0, omega arith, omega arith, omega arith)
 
--- src/lib.rt:155:9
 add-node : tie.Need-add-node Inv-loop μ-loop
 add-node c = search needs
 
--- src/lib.rt:149:5
 loop-less : tie.Need-loop-less Inv-loop μ-loop
 loop-less c = search needs
 
--- src/lib.rt:149:5
 loop-again : tie.Need-loop-again Inv-loop μ-loop
 loop-again c =
     let b = c .before .before .before .loop .inv .1 in
@@ -50,7 +40,6 @@ loop-again c =
           (c .if1 .came),
     )
 
--- src/lib.rt:135:1
 returns : tie.Need-returns Inv-loop μ-loop
 returns c =
     let whole : c .before .loop .node ≡ c .before .before .args .nodes = omega arith in

@@ -2,73 +2,59 @@
 -- fewer than k edges through the node loses.
 -- Assumes nothing.
 use mathlib.Core.Path.{_≡_}
-use Prim.Native.Nat.{ℕ, _≤_, _<_, _+_, _-_}
-use lib.ListN.{getD}
+use Prim.Native.Nat.{_≤_, _<_, _+_, _-_}
 use native.Mathlib.Omega.{arith}
 use borrow.Author.Needs.{needs}
 use Rattle.system.specs.System.{systemOf}
-use Rattle.cycle.specs.Row.{base, Row, row-none, row-more}
-use Rattle.cycle.specs.Found.{NoneBelow, none-below-one, none-below-more, loses}
+use Rattle.cycle.specs.Row.{Row, row-none, row-more}
+use Rattle.cycle.specs.Found.{wide, NoneBelow, none-below-one, none-below-more, loses}
 use Rattle.cycle.proofs.fewest_at.Statement.{statement}
 use Rattle.cycle.proofs.fewest_at.Tie as tie
-use Rattle.cycle.proofs.fewest_at.Reads as reads
-use Rattle.cycle.proofs.fewest_at.Lts as lts
-use Rattle.cycle.proofs.first_row.Reads as first-row-reads
-use Rattle.cycle.proofs.next_row.Reads as next-row-reads
 
 abbrev Inv-loop : tie.InvT-loop
 Inv-loop edges tails heads gains costs node limit row₀ k₀ row k =
-    (0 < k) × (k ≤ limit) × Row (systemOf 64 edges tails heads gains costs) node (k - 1) row × NoneBelow (systemOf 64 edges tails heads gains costs) node k
+    (0 < k) × (k ≤ limit) × Row (wide edges tails heads gains costs) node (k - 1) row × NoneBelow (wide edges tails heads gains costs) node k
 
 abbrev μ-loop : tie.MeasureT-loop
 μ-loop edges tails heads gains costs node limit row₀ k₀ row k = limit - k
 
--- src/lib.rt:121:19
 first-row-requires : tie.Need-first-row-requires Inv-loop μ-loop
 first-row-requires c κs = search needs
 
--- src/lib.rt:123:5
 loop-holds : tie.Need-loop-holds Inv-loop μ-loop
-loop-holds c = (omega arith, omega arith, rw (c .first-row .ensures) (row-none _ 64 _ (c .before .pre .2)), none-below-one _ _)
+loop-holds c = (omega arith, omega arith, rw (c .first-row .ensures) (row-none _ 64 _ (c .before .pre .1)), none-below-one _ _)
 
--- src/lib.rt:124:15
 next-row-requires : tie.Need-next-row-requires Inv-loop μ-loop
-next-row-requires c κs = let i = c .before .before in let p = i .before .before .pre in (p .0, p .1, λ v. omega (arith, i .loop .inv .2 .cap v))
+next-row-requires c κs = let i = c .before .before in let p = i .before .before .pre in (p .0, λ v. omega (arith, i .loop .inv .2 .cap v))
 
 -- the row of one edge more
 next : (c : tie.After-next-row Inv-loop μ-loop)
     → let a = c .before .before .before .before .before .args in
-    Row (systemOf 64 (a .edges) (a .tails .now) (a .heads .now) (a .gains .now) (a .costs .now)) (a .node) (c .before .before .before .loop .k) (c .next-row .result)
+    Row (wide (a .edges) (a .tails .now) (a .heads .now) (a .gains .now) (a .costs .now)) (a .node) (c .before .before .before .loop .k) (c .next-row .result)
 unfolding systemOf
 next c =
     let i = c .before .before .before in
     let same : (i .loop .k - 1) + 1 ≡ i .loop .k = omega arith in
     rw same at (row-more _ _ _ _ _ (i .loop .inv .2) (c .next-row .ensures))
 
--- src/lib.rt:125:19
 mul-if1 : tie.Need-mul-if1 Inv-loop μ-loop
 mul-if1 c = search needs
 
--- src/lib.rt:125:19
 array-read-if1 : tie.Need-array-read-if1 Inv-loop μ-loop
 array-read-if1 c = search needs
 
--- src/lib.rt:126:13
 returns : tie.Need-returns Inv-loop μ-loop
 returns c =
     let d = c .before in
     let i = d .before .before .before in
     record { some = omega arith; within = omega arith; fewer = i .loop .inv .3; found = λ l. loses _ _ _ _ (next d) (c .if1 .taken) (omega arith) }
 
--- src/lib.rt:128:9
 add-k : tie.Need-add-k Inv-loop μ-loop
 add-k c = search needs
 
--- src/lib.rt:123:5
 loop-less : tie.Need-loop-less Inv-loop μ-loop
 loop-less c = search needs
 
--- src/lib.rt:123:5
 loop-again : tie.Need-loop-again Inv-loop μ-loop
 loop-again c =
     let d = c .before in
@@ -77,7 +63,6 @@ loop-again c =
     let same : i .loop .k ≡ (i .loop .k + 1) - 1 = omega arith in
     (omega arith, omega arith, rw same at r, none-below-more _ _ _ _ r (c .if1 .left) (i .loop .inv .3))
 
--- src/lib.rt:109:1
 returns-2 : tie.Need-returns-2 Inv-loop μ-loop
 returns-2 c = record { some = omega arith; within = omega arith; fewer = c .before .loop .inv .3; found = λ l. absurd (omega arith) }
 

@@ -7,18 +7,13 @@ use borrow.Author.Tests.{leb-true}
 use borrow.Author.Needs.{needs}
 use Rattle.cycle.proofs.gives.Statement.{statement}
 use Rattle.cycle.proofs.gives.Tie as tie
-use Rattle.cycle.proofs.gives.Reads as reads
-use Rattle.cycle.proofs.gives.Lts as lts
 
--- src/lib.rt:50:5
 add-result : tie.Need-add-result
 add-result c = search needs
 
--- src/lib.rt:50:28
 add-result-2 : tie.Need-add-result-2
 add-result-2 c = search needs
 
--- src/lib.rt:46:1
 returns : tie.Need-returns
 returns c = (refl, λ e. let a = c .args in omega (arith, leb-true (a .value + a .gain) (a .ahead + a .cost) e))
 

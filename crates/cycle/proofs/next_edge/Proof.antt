@@ -3,7 +3,7 @@
 use mathlib.Core.Path.{_≡_, sym, _∙_}
 use mathlib.Core.Logic.{⊎-elim}
 use mathlib.Core.List.{List}
-use Prim.Native.Nat.{ℕ, _≤_, _<_, _+_, _-_}
+use Prim.Native.Nat.{ℕ, _≤_, _<_, _-_}
 use lib.ListN.{getD}
 use native.Mathlib.Nat.{not-le-of-lt}
 use native.Mathlib.Omega.{arith}
@@ -12,11 +12,9 @@ use borrow.Author.Tests.{leb-true, leb-false}
 use borrow.Author.Count.{below-none, below-more}
 use Rattle.system.specs.System.{System, systemOf}
 use Rattle.cycle.specs.Row.{Gives}
+use Rattle.cycle.specs.Found.{wide}
 use Rattle.cycle.proofs.next_edge.Statement.{statement}
 use Rattle.cycle.proofs.next_edge.Tie as tie
-use Rattle.cycle.proofs.next_edge.Reads as reads
-use Rattle.cycle.proofs.next_edge.Lts as lts
-use Rattle.cycle.proofs.gives.Reads as gives-reads
 
 -- the edge does not both leave the node and give the value
 abbrev Left : System → List ℕ → ℕ → ℕ → ℕ → Type 0
@@ -24,65 +22,52 @@ Left s row node value e = s .graph .tail e ≡ node → Gives s row e value → 
 
 abbrev Inv-loop : tie.InvT-loop
 Inv-loop edges tails heads gains costs row node value e₀ e =
-    (e ≤ edges) × ((i : ℕ) → i < e → Left (systemOf 64 edges tails heads gains costs) row node value i)
+    (e ≤ edges) × ((i : ℕ) → i < e → Left (wide edges tails heads gains costs) row node value i)
 
 abbrev μ-loop : tie.MeasureT-loop
 μ-loop edges tails heads gains costs row node value e₀ e = edges - e
 
--- src/lib.rt:177:5
 loop-holds : tie.Need-loop-holds Inv-loop μ-loop
 loop-holds c = (omega arith, below-none _)
 
 -- the edge's head is among the 64 nodes
 ahead : (c : tie.In-loop Inv-loop μ-loop) → getD (c .before .before .args .heads .now) (c .before .loop .e) 0 < 64
 unfolding systemOf
-ahead c = c .before .before .pre .1 .heads (c .before .loop .e) (c .loop-test .taken)
+ahead c = c .before .before .pre .0 .joined .heads (c .before .loop .e) (c .loop-test .taken)
 
--- src/lib.rt:178:17
 cast-i : tie.Need-cast-i Inv-loop μ-loop
 cast-i c = search needs
 
--- src/lib.rt:179:17
 element-copy-out-v : tie.Need-element-copy-out-v Inv-loop μ-loop
 element-copy-out-v c = search needs
 
--- src/lib.rt:179:17
 cast-v : tie.Need-cast-v Inv-loop μ-loop
 cast-v c = omega (arith, ahead (c .before))
 
--- src/lib.rt:180:12
 element-copy-out-if1 : tie.Need-element-copy-out-if1 Inv-loop μ-loop
 element-copy-out-if1 c = search needs
 
--- src/lib.rt:181:22
 mul-gives : tie.Need-mul-gives Inv-loop μ-loop
 mul-gives c = omega (arith, ahead (c .before .before .before))
 
--- src/lib.rt:181:22
 element-copy-out-gives : tie.Need-element-copy-out-gives Inv-loop μ-loop
 element-copy-out-gives c = omega (arith, ahead (c .before .before .before))
 
--- src/lib.rt:181:30
 mul-gives-2 : tie.Need-mul-gives-2 Inv-loop μ-loop
 mul-gives-2 c = search needs
 
--- src/lib.rt:181:30
 element-copy-out-gives-2 : tie.Need-element-copy-out-gives-2 Inv-loop μ-loop
 element-copy-out-gives-2 c = search needs
 
--- src/lib.rt:181:40
 mul-gives-3 : tie.Need-mul-gives-3 Inv-loop μ-loop
 mul-gives-3 c = search needs
 
--- src/lib.rt:181:40
 element-copy-out-gives-3 : tie.Need-element-copy-out-gives-3 Inv-loop μ-loop
 element-copy-out-gives-3 c = search needs
 
--- src/lib.rt:181:16
 gives-requires : tie.Need-gives-requires Inv-loop μ-loop
-gives-requires c κs = let s = c .before .before .before .before .before .before .before .before in (s .pre .2 _, s .pre .3)
+gives-requires c κs = let s = c .before .before .before .before .before .before .before .before in (s .pre .1 _, s .pre .2)
 
--- src/lib.rt:182:17
 returns : tie.Need-returns Inv-loop μ-loop
 unfolding systemOf
 returns c =
@@ -93,15 +78,12 @@ returns c =
       found = λ l. (g .if1 .taken, leb-true _ _ (sym (c .before .gives .ensures .0) ∙ c .if2 .taken), c .before .gives .ensures .1 (c .if2 .taken));
     }
 
--- src/lib.rt:185:9
 add-e : tie.Need-add-e Inv-loop μ-loop
 add-e c = search needs
 
--- src/lib.rt:177:5
 loop-less : tie.Need-loop-less Inv-loop μ-loop
 loop-less c = search needs
 
--- src/lib.rt:177:5
 loop-again : tie.Need-loop-again Inv-loop μ-loop
 unfolding systemOf
 loop-again c =
@@ -110,7 +92,6 @@ loop-again c =
       below-more _ _ (i .loop .inv .1) (⊎-elim (λ w t g. not-le-of-lt (leb-false _ _ (sym (w .4 .ensures .0) ∙ w .5 .left)) g) (λ w t g. w .left t) (c .if1 .came)),
     )
 
--- src/lib.rt:163:1
 returns-2 : tie.Need-returns-2 Inv-loop μ-loop
 unfolding systemOf
 returns-2 c = record { within = omega arith; first = c .before .loop .inv .1; found = λ l. absurd (omega arith) }

@@ -1,27 +1,23 @@
 -- `cycle::next_row` meets its contract. The loop's invariant: the next row so far is what the edges passed bring.
 -- Assumes nothing.
-use mathlib.Core.Path.{_≡_, refl, sym, ap, _∙_}
-use Prim.Native.Nat.{ℕ, _≤_, _<_, _+_, _-_}
-use lib.ListN.{length, getD, set, length-set}
+use mathlib.Core.Path.{_≡_}
+use Prim.Native.Nat.{_≤_, _<_, _-_}
+use lib.ListN.{length, getD, length-set}
 use native.Mathlib.Omega.{arith}
 use borrow.Author.Needs.{needs}
 use Rattle.system.specs.System.{systemOf}
 use Rattle.cycle.specs.Row.{Carried, carried-none, carried-more}
+use Rattle.cycle.specs.Found.{wide}
 use Rattle.cycle.proofs.next_row.Statement.{statement}
 use Rattle.cycle.proofs.next_row.Tie as tie
-use Rattle.cycle.proofs.next_row.Reads as reads
-use Rattle.cycle.proofs.next_row.Lts as lts
-use Rattle.cycle.proofs.carried.Reads as carried-reads
-use Rattle.cycle.proofs.larger.Reads as larger-reads
 
 abbrev Inv-loop : tie.InvT-loop
 Inv-loop edges tails heads gains costs row next₀ e₀ next e =
-    (e ≤ edges) × (length next ≡ 64) × Carried (systemOf 64 edges tails heads gains costs) e row next
+    (e ≤ edges) × (length next ≡ 64) × Carried (wide edges tails heads gains costs) e row next
 
 abbrev μ-loop : tie.MeasureT-loop
 μ-loop edges tails heads gains costs row next₀ e₀ next e = edges - e
 
--- src/lib.rt:57:5
 loop-holds : tie.Need-loop-holds Inv-loop μ-loop
 loop-holds c = (omega arith, search needs, carried-none _ _ 64)
 
@@ -30,86 +26,66 @@ ends : (c : tie.In-loop Inv-loop μ-loop)
     → (getD (c .before .before .args .tails .now) (c .before .loop .e) 0 < 64) × (getD (c .before .before .args .heads .now) (c .before .loop .e) 0 < 64)
 unfolding systemOf
 ends c =
-    let j = c .before .before .pre .1 in
+    let j = c .before .before .pre .0 .joined in
     (j .tails (c .before .loop .e) (c .loop-test .taken), j .heads (c .before .loop .e) (c .loop-test .taken))
 
--- src/lib.rt:58:17
 cast-i : tie.Need-cast-i Inv-loop μ-loop
 cast-i c = search needs
 
--- src/lib.rt:59:17
 element-copy-out-u : tie.Need-element-copy-out-u Inv-loop μ-loop
 element-copy-out-u c = search needs
 
--- src/lib.rt:59:17
 cast-u : tie.Need-cast-u Inv-loop μ-loop
 cast-u c = omega (arith, ends (c .before))
 
--- src/lib.rt:60:17
 element-copy-out-v : tie.Need-element-copy-out-v Inv-loop μ-loop
 element-copy-out-v c = search needs
 
--- src/lib.rt:60:17
 cast-v : tie.Need-cast-v Inv-loop μ-loop
 cast-v c = omega (arith, ends (c .before .before))
 
--- src/lib.rt:61:26
 mul-larger : tie.Need-mul-larger Inv-loop μ-loop
 mul-larger c = omega (arith, ends (c .before .before))
 
--- src/lib.rt:61:26
 array-read-larger : tie.Need-array-read-larger Inv-loop μ-loop
 array-read-larger c = omega (arith, ends (c .before .before))
 
--- src/lib.rt:61:43
 mul-carried : tie.Need-mul-carried Inv-loop μ-loop
 mul-carried c = omega (arith, ends (c .before .before))
 
--- src/lib.rt:61:43
 element-copy-out-carried : tie.Need-element-copy-out-carried Inv-loop μ-loop
 element-copy-out-carried c = omega (arith, ends (c .before .before))
 
--- src/lib.rt:61:51
 mul-carried-2 : tie.Need-mul-carried-2 Inv-loop μ-loop
 mul-carried-2 c = search needs
 
--- src/lib.rt:61:51
 element-copy-out-carried-2 : tie.Need-element-copy-out-carried-2 Inv-loop μ-loop
 element-copy-out-carried-2 c = search needs
 
--- src/lib.rt:61:61
 mul-carried-3 : tie.Need-mul-carried-3 Inv-loop μ-loop
 mul-carried-3 c = search needs
 
--- src/lib.rt:61:61
 element-copy-out-carried-3 : tie.Need-element-copy-out-carried-3 Inv-loop μ-loop
 element-copy-out-carried-3 c = search needs
 
--- src/lib.rt:61:35
 carried-requires : tie.Need-carried-requires Inv-loop μ-loop
-carried-requires c κs = c .before .before .before .before .before .before .before .pre .2 _
+carried-requires c κs = c .before .before .before .before .before .before .before .pre .1 _
 
--- src/lib.rt:61:19
 larger-requires : tie.Need-larger-requires Inv-loop μ-loop
 larger-requires c κs = search needs
 
--- src/lib.rt:61:9
 mul-next : tie.Need-mul-next Inv-loop μ-loop
 mul-next c = omega (arith, ends (c .before .before .before .before .before .before .before))
 
--- src/lib.rt:61:9
 array-write-next : tie.Need-array-write-next Inv-loop μ-loop
 array-write-next c = omega (arith, ends (c .before .before .before .before .before .before .before))
 
--- src/lib.rt:62:9
 add-e : tie.Need-add-e Inv-loop μ-loop
 add-e c = search needs
 
--- src/lib.rt:57:5
 loop-less : tie.Need-loop-less Inv-loop μ-loop
 loop-less c = search needs
 
--- src/lib.rt:57:5
 loop-again : tie.Need-loop-again Inv-loop μ-loop
 unfolding systemOf
 loop-again c =
@@ -118,10 +94,9 @@ loop-again c =
       omega arith,
       simp length-set (omega arith),
       rw (c .larger .ensures, c .before .carried .ensures .0)
-          (carried-more (systemOf 64 (a .edges) (a .tails .now) (a .heads .now) (a .gains .now) (a .costs .now)) (i .before .loop .e) (a .row .now) (i .before .loop .next) (omega (arith, ends i)) (omega arith) (i .before .loop .inv .2)),
+          (carried-more (wide (a .edges) (a .tails .now) (a .heads .now) (a .gains .now) (a .costs .now)) (i .before .loop .e) (a .row .now) (i .before .loop .next) (omega (arith, ends i)) (omega arith) (i .before .loop .inv .2)),
     )
 
--- src/lib.rt:44:1
 returns : tie.Need-returns Inv-loop μ-loop
 returns c =
     let whole : c .before .loop .e ≡ c .before .before .args .edges = omega arith in

@@ -1,53 +1,42 @@
 -- `cycle::row_of` meets its contract. The loop's invariant: the row is the one of so many edges as turns.
 -- Assumes nothing.
 use mathlib.Core.Path.{_≡_}
-use Prim.Native.Nat.{ℕ, _≤_, _<_, _+_, _-_}
-use lib.ListN.{getD}
+use Prim.Native.Nat.{_≤_, _-_}
 use native.Mathlib.Omega.{arith}
 use borrow.Author.Needs.{needs}
 use Rattle.system.specs.System.{systemOf}
 use Rattle.cycle.specs.Row.{Row, row-none, row-more}
+use Rattle.cycle.specs.Found.{wide}
 use Rattle.cycle.proofs.row_of.Statement.{statement}
 use Rattle.cycle.proofs.row_of.Tie as tie
-use Rattle.cycle.proofs.row_of.Reads as reads
-use Rattle.cycle.proofs.row_of.Lts as lts
-use Rattle.cycle.proofs.first_row.Reads as first-row-reads
-use Rattle.cycle.proofs.next_row.Reads as next-row-reads
 
 abbrev Inv-loop : tie.InvT-loop
-Inv-loop edges tails heads gains costs target count row₀ k₀ row k = (k ≤ count) × Row (systemOf 64 edges tails heads gains costs) target k row
+Inv-loop edges tails heads gains costs target count row₀ k₀ row k = (k ≤ count) × Row (wide edges tails heads gains costs) target k row
 
 abbrev μ-loop : tie.MeasureT-loop
 μ-loop edges tails heads gains costs target count row₀ k₀ row k = count - k
 
--- src/lib.rt:99:19
 first-row-requires : tie.Need-first-row-requires Inv-loop μ-loop
 first-row-requires c κs = search needs
 
--- src/lib.rt:101:5
 loop-holds : tie.Need-loop-holds Inv-loop μ-loop
-loop-holds c = (omega arith, rw (c .first-row .ensures) (row-none _ 64 _ (c .before .pre .2)))
+loop-holds c = (omega arith, rw (c .first-row .ensures) (row-none _ 64 _ (c .before .pre .1)))
 
--- src/lib.rt:102:15
 next-row-requires : tie.Need-next-row-requires Inv-loop μ-loop
-next-row-requires c κs = let i = c .before .before in let p = i .before .before .pre in (p .0, p .1, λ v. omega (arith, i .loop .inv .1 .cap v))
+next-row-requires c κs = let i = c .before .before in let p = i .before .before .pre in (p .0, λ v. omega (arith, i .loop .inv .1 .cap v))
 
--- src/lib.rt:103:9
 add-k : tie.Need-add-k Inv-loop μ-loop
 add-k c = search needs
 
--- src/lib.rt:101:5
 loop-less : tie.Need-loop-less Inv-loop μ-loop
 loop-less c = search needs
 
--- src/lib.rt:101:5
 loop-again : tie.Need-loop-again Inv-loop μ-loop
 unfolding systemOf
 loop-again c =
     let i = c .before .before .before in
     (omega arith, row-more _ _ _ _ _ (i .loop .inv .1) (c .next-row .ensures))
 
--- src/lib.rt:87:1
 returns : tie.Need-returns Inv-loop μ-loop
 returns c =
     let whole : c .before .loop .k ≡ c .before .before .before .args .count = omega arith in

@@ -8,54 +8,46 @@ use native.Mathlib.Omega.{arith}
 use borrow.Author.Needs.{needs}
 use Rattle.system.specs.System.{systemOf}
 use Rattle.cycle.specs.Walked.{Walked, walked-none, walked-all, walked-more, edge-in}
+use Rattle.cycle.specs.Row.{roof}
+use Rattle.cycle.specs.Found.{wide}
 use Rattle.cycle.proofs.walk_of.Statement.{statement}
 use Rattle.cycle.proofs.walk_of.Tie as tie
-use Rattle.cycle.proofs.walk_of.Reads as reads
-use Rattle.cycle.proofs.walk_of.Lts as lts
-use Rattle.cycle.proofs.next_edge.Reads as next-edge-reads
-use Rattle.cycle.proofs.row_of.Reads as row-of-reads
 
 abbrev Inv-loop : tie.InvT-loop
 Inv-loop edges tails heads gains costs start count found₀ node₀ value₀ i₀ found node value i =
-    (i ≤ count) × (length found ≡ 64) × (value ≤ 16777216) × Walked (systemOf 64 edges tails heads gains costs) start (count - i) i found node value
+    (i ≤ count) × (length found ≡ 64) × (value ≤ roof) × Walked (wide edges tails heads gains costs) start (count - i) i found node value
 
 abbrev μ-loop : tie.MeasureT-loop
 μ-loop edges tails heads gains costs start count found₀ node₀ value₀ i₀ found node value i = count - i
 
--- src/lib.rt:206:21
 add-value : tie.Need-add-value Inv-loop μ-loop
 add-value c = search needs
 
--- src/lib.rt:208:5
 loop-holds : tie.Need-loop-holds Inv-loop μ-loop
 loop-holds c =
     let all : c .args .count ≡ c .args .count - 0 = omega arith in
-    (omega arith, search needs, omega arith, rw all at (walked-none _ 64 _ _ (c .pre .3) (c .pre .4)))
+    (omega arith, search needs, omega arith, rw all at (walked-none _ 64 _ _ (c .pre .2) (c .pre .3)))
 
--- src/lib.rt:209:68
 sub-row-of : tie.Need-sub-row-of Inv-loop μ-loop
 sub-row-of c = search needs
 
--- src/lib.rt:209:68
 sub-row-of-2 : tie.Need-sub-row-of-2 Inv-loop μ-loop
 sub-row-of-2 c = search needs
 
--- src/lib.rt:209:19
 row-of-requires : tie.Need-row-of-requires Inv-loop μ-loop
-row-of-requires c κs = let p = c .before .before .pre in (p .0, p .1, p .2, omega arith)
+row-of-requires c κs = let p = c .before .before .pre in (p .0, p .1, omega arith)
 
--- src/lib.rt:210:13
 next-edge-requires : tie.Need-next-edge-requires Inv-loop μ-loop
 next-edge-requires c κs =
     let i = c .before .before .before in
     let p = i .before .pre in
-    (p .0, p .1, λ v. omega (arith, c .before .row-of .ensures .cap v), i .loop .inv .2)
+    (p .0, λ v. omega (arith, c .before .row-of .ensures .cap v), i .loop .inv .2)
 
 -- what is still to come, as one edge more than the row is for
 here : (c : tie.In-loop Inv-loop μ-loop)
     → let l = c .before .loop in
     let a = c .before .before .args in
-    Walked (systemOf 64 (a .edges) (a .tails .now) (a .heads .now) (a .gains .now) (a .costs .now)) (a .start) (a .count - l .i - 1 + 1) (l .i) (l .found) (l .node) (l .value)
+    Walked (wide (a .edges) (a .tails .now) (a .heads .now) (a .gains .now) (a .costs .now)) (a .start) (a .count - l .i - 1 + 1) (l .i) (l .found) (l .node) (l .value)
 here c =
     let more : c .before .before .args .count - c .before .loop .i ≡ c .before .before .args .count - c .before .loop .i - 1 + 1 = omega arith in
     rw more at (c .before .loop .inv .3)
@@ -68,49 +60,38 @@ unfolding systemOf
 ahead c =
     let d = c .before .before in
     let inside = edge-in _ _ _ _ _ _ _ (here (d .before) .onward) (d .row-of .ensures) (c .next-edge .ensures) in
-    (inside, d .before .before .before .pre .1 .heads (c .next-edge .result) inside)
+    (inside, d .before .before .before .pre .0 .joined .heads (c .next-edge .result) inside)
 
--- src/lib.rt:211:15
 cast-found : tie.Need-cast-found Inv-loop μ-loop
 cast-found c = search needs
 
--- src/lib.rt:211:9
 mul-found : tie.Need-mul-found Inv-loop μ-loop
 mul-found c = search needs
 
--- src/lib.rt:211:9
 array-write-found : tie.Need-array-write-found Inv-loop μ-loop
 array-write-found c = search needs
 
--- src/lib.rt:212:22
 cast-node : tie.Need-cast-node Inv-loop μ-loop
 cast-node c = omega (arith, ahead (c))
 
--- src/lib.rt:212:16
 element-copy-out-node : tie.Need-element-copy-out-node Inv-loop μ-loop
 element-copy-out-node c = omega (arith, ahead (c))
 
--- src/lib.rt:213:21
 cast-value : tie.Need-cast-value Inv-loop μ-loop
 cast-value c = omega (arith, ahead (c .before))
 
--- src/lib.rt:213:17
 mul-value : tie.Need-mul-value Inv-loop μ-loop
 mul-value c = omega (arith, ahead (c .before))
 
--- src/lib.rt:213:17
 array-read-value : tie.Need-array-read-value Inv-loop μ-loop
 array-read-value c = omega (arith, ahead (c .before))
 
--- src/lib.rt:214:9
 add-i : tie.Need-add-i Inv-loop μ-loop
 add-i c = search needs
 
--- src/lib.rt:208:5
 loop-less : tie.Need-loop-less Inv-loop μ-loop
 loop-less c = search needs
 
--- src/lib.rt:208:5
 loop-again : tie.Need-loop-again Inv-loop μ-loop
 unfolding systemOf
 loop-again c =
@@ -124,7 +105,6 @@ loop-again c =
       rw fewer at (walked-more _ _ _ _ _ _ _ _ _ (omega arith) (here (d .before)) (d .row-of .ensures) (c .before .next-edge .ensures)),
     )
 
--- src/lib.rt:192:1
 returns : tie.Need-returns Inv-loop μ-loop
 returns c =
     let l = c .before .loop in
