@@ -3,15 +3,16 @@
 -- and rises by at most 65535 with each edge: it stays below what the target's can fall to.
 -- Assumes nothing.
 use mathlib.Core.Path.{_≡_, refl, sym, ap, subst}
-use mathlib.Core.Logic.{_⊎_, inl, inr, ⊎-elim}
+use mathlib.Core.Logic.{⊎-elim}
 use mathlib.Core.List.{List, [], _∷_}
-use Prim.Native.Nat.{ℕ, zero, suc, _+_, _-_, _*_, _≤_, _<_, max}
+use Prim.Native.Nat.{ℕ, _+_, _-_, _*_, _≤_, _<_, max}
 use lib.ListN.{length, getD, set, replicate, length-replicate}
-use lib.Seq.{getD-set-same, getD-set-other}
+use lib.Seq.{getD-set-same}
 use native.Mathlib.Omega.{arith}
 use native.Mathlib.Decide.{decLe, decLt, ℕ-discrete}
 use native.Mathlib.Nat.{not-suc-le-zero}
 use Rattle.lists.specs.Fold.{sumOf}
+use Rattle.lists.specs.Place.{set-view, zeros-at}
 use Rattle.system.specs.Graph.{Walk}
 use Rattle.system.specs.System.{System, gains, costs}
 
@@ -36,7 +37,7 @@ pub record Row (s : System) (target k : ℕ) (row : List ℕ) : Type 0 where
   pub worth : (v : ℕ) → 65535 * k < getD row v 0 → Worth s target k v (getD row v 0)
   pub cap : (v : ℕ) → getD row v 0 ≤ base + 65535 * k
 
--- the edge e gives its tail no more than the value
+-- the edge e gives its tail at least the value
 abbrev pub Gives : System → List ℕ → ℕ → ℕ → Type 0
 Gives s row e value = value + s .gain e ≤ getD row (s .graph .head e) 0 + s .cost e
 
@@ -53,23 +54,10 @@ pub record Carried (s : System) (i : ℕ) (row next : List ℕ) : Type 0 where
   pub meets : (e : ℕ) → e < i → getD row (s .graph .head e) 0 + s .cost e ≤ getD next (s .graph .tail e) 0 + s .gain e
   pub from : (v : ℕ) → 0 < getD next v 0 → From s i row next v
 
--- what is at a place after a store
-set-view : (xs : List ℕ) (i x : ℕ) → i < length xs → (v : ℕ) → ((i ≡ v) × (getD (set xs i x) v 0 ≡ x)) ⊎ (getD (set xs i x) v 0 ≡ getD xs v 0)
-set-view xs i x l v =
-    elim (ℕ-discrete i v) [
-      | yes e ↦ inl (e, subst (λ j. getD (set xs i x) j 0 ≡ x) e (getD-set-same xs i x 0 l))
-      | no h ↦ inr (getD-set-other xs i v x 0 (λ e. h (sym e)))
-    ]
-
-pub zeros-at : (n v : ℕ) → _≡_ {A = ℕ} (getD (replicate n 0) v 0) 0
-zeros-at zero v = refl
-zeros-at (suc n) zero = refl
-zeros-at (suc n) (suc v) = zeros-at n v
-
 pub carried-none : (s : System) (row : List ℕ) (n : ℕ) → Carried s 0 row (replicate n 0)
 carried-none s row n = record {
   meets = λ e l. absurd (not-suc-le-zero l);
-  from = λ v l. let z : 1 ≤ 0 = omega (arith, zeros-at n v) in absurd (not-suc-le-zero z);
+  from = λ v l. absurd (omega (arith, zeros-at n v));
 }
 
 -- one edge more
@@ -83,7 +71,7 @@ carried-more s i row next l near c =
     let y : ℕ = max (getD next t 0) x in
     let new : List ℕ = set next t y in
     let grows : (v : ℕ) → getD next v 0 ≤ getD new v 0 =
-    λ v. ⊎-elim (λ w. omega (arith, ap (λ j. getD next j 0) (w .0))) (λ w. omega arith) (set-view next t y l v) in
+    λ v. ⊎-elim (λ w. omega (arith, ap (λ j. getD next j 0) (w .0))) (λ w. omega arith) (set-view next t y v) in
     let own : getD new t 0 ≡ y = getD-set-same next t y 0 l in
     let kept : (v : ℕ) → getD new v 0 ≡ getD next v 0 → 0 < getD new v 0 → From s (i + 1) row new v =
     λ v e q. let f = c .from v (omega arith) in record { edge = f .edge; looked = omega (arith, f .looked); out = f .out; given = omega (arith, f .given); near = omega (arith, f .near) } in
@@ -98,10 +86,10 @@ carried-more s i row next l near c =
           (λ w.
           elim (decLe x (getD next t 0)) [
             | yes h ↦ kept v (omega (arith, ap (λ j. getD next j 0) (w .0))) q
-            | no h ↦ record { edge = i; looked = omega arith; out = w .0; given = omega arith; near = omega arith }
+            | no h ↦ record { edge = i; looked = omega arith; out = sym (w .0); given = omega arith; near = omega arith }
           ])
           (λ e. kept v e q)
-          (set-view next t y l v);
+          (set-view next t y v);
     }
 
 -- the row of no edge
@@ -109,10 +97,10 @@ pub row-none : (s : System) (n target : ℕ) → target < n → Row s target 0 (
 unfolding gains costs sumOf
 row-none s n target l =
     let zeros : List ℕ = replicate n 0 in
-    let view = set-view zeros target base (omega (arith, length-replicate {A = ℕ} n 0)) in
+    let view = set-view zeros target base in
     record {
       over = over;
-      worth = λ v q. ⊎-elim (λ w. record { path = []; walk = sym (w .0); size = refl; enough = omega arith }) (λ e. let z : 1 ≤ 0 = omega (arith, zeros-at n v) in absurd (not-suc-le-zero z)) (view v);
+      worth = λ v q. ⊎-elim (λ w. record { path = []; walk = w .0; size = refl; enough = omega arith }) (λ e. absurd (omega (arith, zeros-at n v))) (view v);
       cap = λ v. ⊎-elim (λ w. omega arith) (λ e. omega (arith, zeros-at n v)) (view v);
     }
   where

@@ -9,10 +9,11 @@ use native.Mathlib.Numerals.{add-one}
 use native.Mathlib.Omega.{arith}
 use native.Mathlib.Decide.{decLt}
 use Rattle.lists.specs.Fold.{sumOf, sum-append}
+use Rattle.lists.specs.Place.{zeros-at}
 use Rattle.system.specs.Graph.{Walk}
 use Rattle.system.specs.System.{System, gains, costs, LosingWalk}
-use Rattle.cycle.specs.Fewest.{walk-join}
-use Rattle.cycle.specs.Row.{base, Worth, Row, zeros-at}
+use Rattle.system.specs.Walks.{walk-join}
+use Rattle.cycle.specs.Row.{base, Worth, Row}
 use Rattle.cycle.specs.Found.{NextEdge}
 
 -- after i edges, from the start to the node, with `left` more to go

@@ -1,7 +1,7 @@
 -- `cycle::shortest_cycle` meets its contract: what the start and the walk tell of 64 nodes holds of the graph's own number.
 -- Assumes nothing.
 use native.Mathlib.Omega.{arith}
-use Rattle.cycle.specs.Row.{zeros-at}
+use Rattle.lists.specs.Place.{zeros-at}
 use Rattle.cycle.specs.Among.{tables, none-found, cycle-found}
 use Rattle.cycle.proofs.shortest_cycle.Statement.{statement}
 use Rattle.cycle.proofs.shortest_cycle.Tie as tie
