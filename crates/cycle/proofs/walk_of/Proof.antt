@@ -72,10 +72,10 @@ array-write-found : tie.Need-array-write-found Inv-loop μ-loop
 array-write-found c = search needs
 
 cast-node : tie.Need-cast-node Inv-loop μ-loop
-cast-node c = omega (arith, ahead (c))
+cast-node c = omega (arith, ahead c)
 
 element-copy-out-node : tie.Need-element-copy-out-node Inv-loop μ-loop
-element-copy-out-node c = omega (arith, ahead (c))
+element-copy-out-node c = omega (arith, ahead c)
 
 cast-value : tie.Need-cast-value Inv-loop μ-loop
 cast-value c = omega (arith, ahead (c .before))
