@@ -4,3 +4,6 @@ pub mod Systems
 pub mod Judging
 pub mod Shape
 pub mod Limits
+pub mod Splits
+pub mod Balanced
+pub mod Knots
