@@ -7,3 +7,5 @@ pub mod Limits
 pub mod Splits
 pub mod Balanced
 pub mod Knots
+pub mod Paced
+pub mod Fitted
