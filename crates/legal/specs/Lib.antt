@@ -9,3 +9,5 @@ pub mod Balanced
 pub mod Knots
 pub mod Paced
 pub mod Fitted
+pub mod Ruled
+pub mod Judged

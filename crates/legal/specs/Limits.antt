@@ -19,6 +19,10 @@ body-more : (l a b : ℕ) → a < b → l * a + l ≤ l * b
 body-more l a b h = omega (arith, mul-le-mul-left l h, mul-suc l a)
 
 module _ (g : Loop) (p : Pair) where
+  -- all edges keep the edge rule
+  abbrev pub EdgeRules : Type 0
+  EdgeRules = (e : ℕ) → e < g .graph .edges → EdgeRule g p e
+
   -- edge e's limit on the retimings
   abbrev pub LimitRule : ℕ → Type 0
   LimitRule e = p .retiming (g .graph .head e) + lateness g p e ≤ p .retiming (g .graph .tail e) + g .delay e
@@ -66,13 +70,13 @@ module _ (g : Loop) (p : Pair) where
 
   module _ (s : Sound g) (b : Bodied g p) where
     -- where all edges keep the edge rule, the retiming fits the starts
-    pub edges-fit : ((e : ℕ) → e < g .graph .edges → EdgeRule g p e) → Fits g p (p .retiming)
+    pub edges-fit : EdgeRules → Fits g p (p .retiming)
     edges-fit h e l =
         let u = s .joined .tails e l in
         edge-limit e (s .works _ u) (b _ u) (b _ (s .joined .heads e l)) (h e l)
 
     -- where the retiming fits the starts, all edges keep the edge rule
-    pub fit-edges : Fits g p (p .retiming) → (e : ℕ) → e < g .graph .edges → EdgeRule g p e
+    pub fit-edges : Fits g p (p .retiming) → EdgeRules
     fit-edges h e l =
         let u = s .joined .tails e l in
         limit-edge e (s .works _ u) (b _ u) (b _ (s .joined .heads e l)) (h e l)

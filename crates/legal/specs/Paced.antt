@@ -14,9 +14,10 @@ use Rattle.system.specs.System.{System, Solves, gains, costs, LosingWalk}
 use Rattle.system.specs.Rounds.{settledOf}
 use Rattle.system.specs.Laws.{settles-solved}
 use Rattle.legal.specs.Loop.{Loop, Pair, latency}
-use Rattle.legal.specs.Legal.{EdgeRule, Legal, Knot}
+use Rattle.legal.specs.Legal.{Legal, Knot}
 use Rattle.legal.specs.Systems.{paces}
 use Rattle.legal.specs.Shape.{Sound}
+use Rattle.legal.specs.Limits.{EdgeRules}
 use Rattle.legal.specs.Balanced.{Balances, balanced-sound, balanced-settles}
 
 -- the latencies of the nodes that a walk's edges leave
@@ -39,10 +40,6 @@ module _ (g : Loop) (l : ℕ) where
   pub short-loses : (u : ℕ) (es : List ℕ) → Walk (g .graph) u es u → l * sumOf (g .delay) es < latencies g es → LosingWalk (paces g l) es
   unfolding paces gains costs
   short-loses u es w h = record { from = u; closed = w; loss = omega (arith, paces-gains es) }
-
--- all edges keep the edge rule
-abbrev pub EdgeRules : Loop → Pair → Type 0
-EdgeRules g p = (e : ℕ) → e < g .graph .edges → EdgeRule g p e
 
 module _ (g : Loop) (p : Pair) (h : EdgeRules g p) where
   -- the starts less a body for each retiming solve the system of the length
