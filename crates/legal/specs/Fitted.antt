@@ -4,13 +4,12 @@ use mathlib.Core.Path.{_≡_, refl}
 use mathlib.Core.Bool.{Bool, true, false}
 use mathlib.Core.Logic.{⊎-elim}
 use mathlib.Core.List.{List}
-use Prim.Native.Nat.{ℕ, _+_, _-_, _*_, _≤_, _<_}
+use Prim.Native.Nat.{ℕ, _≤_, _<_}
 use native.Mathlib.Omega.{arith}
 use native.Mathlib.Nat.{mul-one}
-use Rattle.system.specs.Graph.{Joined, stop}
-use Rattle.system.specs.System.{System, gains, costs, Losing, LosingWalk}
+use Rattle.system.specs.System.{gains, costs, Losing}
 use Rattle.system.specs.Rounds.{settledOf}
-use Rattle.system.specs.Laws.{settledAt, values-bound, unsettled-loses}
+use Rattle.system.specs.Laws.{values-bound, unsettled-loses}
 use Rattle.system.specs.Turned.{topOf, turnedAt, turned-le, turned-zero, turned-top, turned-turns, least-depth, largest}
 use Rattle.legal.specs.Loop.{Loop, Pair}
 use Rattle.legal.specs.Legal.{occupies, busy, UnitRule, Legal}
@@ -44,6 +43,7 @@ module _ (g : Loop) (p : Pair) where
   unfolding limits gains costs
   losing-impossible es c = record { cycle = c .cycle; negative = c .loss }
 
+  -- and a cycle with a negative limit sum loses
   pub impossible-losing : (es : List ℕ) → Impossible g p es → Losing (limits g p) es
   unfolding limits gains costs
   impossible-losing es c = record { cycle = c .cycle; loss = c .negative }

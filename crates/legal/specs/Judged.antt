@@ -1,7 +1,6 @@
 -- What the judge answers of a well-formed form: Bare, Knot, Dependence with the lowest edge, Units with the lowest step and then class, or that the pair is legal.
 -- Assumes nothing.
-use mathlib.Core.Path.{_≡_, refl, sym, _∙_, ap, subst}
-use mathlib.Core.Bool.{Bool, true, false, true≢false}
+use mathlib.Core.Path.{_≡_, _∙_, subst}
 use mathlib.Core.Logic.{_≢_}
 use mathlib.Core.List.{List}
 use Prim.Native.Nat.{ℕ}
@@ -16,31 +15,17 @@ use Rattle.legal.specs.Loop.{Loop, Pair, loopOf, pairOf}
 use Rattle.legal.specs.Legal.{UnitRule, Legal, Knot}
 use Rattle.legal.specs.Systems.{knotted}
 use Rattle.legal.specs.Judging.{rulesOf, judgeOf}
-use Rattle.legal.specs.Shape.{Sound, Placed, sound-form, placed-form}
+use Rattle.legal.specs.Shape.{Placed, sound-form, placed-form}
 use Rattle.legal.specs.Limits.{EdgeRules}
-use Rattle.legal.specs.Knots.{knot-knotted, knotted-knot}
+use Rattle.legal.specs.Knots.{Free, knot-knotted, knotted-knot, free-unknotted, unknotted-free}
 use Rattle.legal.specs.Paced.{legal-free}
 use Rattle.legal.specs.Ruled.{LowestEdge, LowestOver, Ruled, dependence, units, kept, ruled, ruled-is}
-
--- the loop has no knot
-abbrev pub Free : Loop → Type 0
-Free g = (es : List ℕ) → Knot g es → ⊥
 
 -- the refusals of the judge, and when each is made
 pub data Judged (g : Loop) (p : Pair) : Refusal → Type 0 where
   bare : p .length ≡ 0 → Judged g p Bare
   knot : p .length ≢ 0 → (es : List ℕ) → Knot g es → Judged g p Knotted
   rules : (r : Refusal) → p .length ≢ 0 → Free g → Ruled g p r → Judged g p r
-
-free-unknotted : (g : Loop) → Sound g → Free g → knotted g ≡ false
-free-unknotted g s free = go (knotted g) refl
-  where
-    go : (b : Bool) → knotted g ≡ b → knotted g ≡ false
-    go true q = let k = knotted-knot g s q in absurd (free (k .0) (k .1))
-    go false q = q
-
-unknotted-free : (g : Loop) → knotted g ≡ false → Free g
-unknotted-free g q es k = true≢false (sym (knot-knotted g es k) ∙ q)
 
 module _ (g : Loop) (p : Pair) where
   told-bare : Judged g p Bare → p .length ≡ 0
@@ -87,15 +72,17 @@ module _ (f : Form) (w : WellFormed f) where
   unfolding pairOf
   judge-bare q = told-bare (loopOf f) (pairOf f) (told Bare q)
 
+  -- a form without a schedule is Bare
   pub bare-judge : f .length ≡ 0 → judgeOf f ≡ Bare
   unfolding pairOf
   bare-judge z = judged-is Bare (bare z)
 
-  -- Knot: it has one, and the loop has a knot
+  -- Knot: it has a schedule, and the loop has a knot
   pub judge-knot : judgeOf f ≡ Knotted → (f .length ≢ 0) × ((es : List ℕ) × Knot (loopOf f) es)
   unfolding pairOf
   judge-knot q = told-knot (loopOf f) (pairOf f) (told Knotted q)
 
+  -- a schedule of a loop with a knot is refused with Knot
   pub knot-judge : f .length ≢ 0 → (es : List ℕ) → Knot (loopOf f) es → judgeOf f ≡ Knotted
   unfolding pairOf
   knot-judge n es k = judged-is Knotted (knot n es k)
@@ -105,6 +92,7 @@ module _ (f : Form) (w : WellFormed f) where
   unfolding pairOf
   judge-dependence e q = told-dependence (loopOf f) (pairOf f) e (told (Dependence e) q)
 
+  -- the lowest edge that breaks the edge rule is refused where there is no knot
   pub dependence-judge : (e : ℕ) → f .length ≢ 0 → Free (loopOf f) → LowestEdge (loopOf f) (pairOf f) e → judgeOf f ≡ Dependence e
   unfolding pairOf
   dependence-judge e n free t = judged-is (Dependence e) (rules (Dependence e) n free (dependence e t))
@@ -115,11 +103,12 @@ module _ (f : Form) (w : WellFormed f) where
   unfolding pairOf
   judge-units q c t = told-units (loopOf f) (pairOf f) q c (told (Units q c) t)
 
+  -- the lowest step and class over the units are refused where there is no knot and the edge rule is kept
   pub units-judge : (q c : ℕ) → f .length ≢ 0 → Free (loopOf f) → EdgeRules (loopOf f) (pairOf f) → LowestOver (loopOf f) (pairOf f) q c → judgeOf f ≡ Units q c
   unfolding pairOf
   units-judge q c n free h t = judged-is (Units q c) (rules (Units q c) n free (units h q c t))
 
-  -- the judge accepts a schedule whose pair is legal, and no other form
+  -- what the judge accepts is a schedule whose pair is legal
   pub judge-accepts : judgeOf f ≡ None → (f .length ≢ 0) × Legal (loopOf f) (pairOf f)
   unfolding pairOf
   judge-accepts q =
@@ -127,6 +116,7 @@ module _ (f : Form) (w : WellFormed f) where
       let s : Placed (loopOf f) (pairOf f) = placed-form f w (t .0) in
       (t .0, record { body = s .body; retimings = s .retimings; least = s .least; edges = t .1; units = t .2 })
 
+  -- a legal pair is accepted
   pub accepts-judge : f .length ≢ 0 → Legal (loopOf f) (pairOf f) → judgeOf f ≡ None
   unfolding pairOf
   accepts-judge n legal =

@@ -1,18 +1,17 @@
 -- Knots: found exactly where the system of knots does not settle, and impossible for any starts in the body.
 -- Assumes nothing.
-use mathlib.Core.Path.{_≡_, refl, ap, _∙_}
-use mathlib.Core.Bool.{Bool, true, false, not}
+use mathlib.Core.Path.{_≡_, refl, sym, ap, _∙_}
+use mathlib.Core.Bool.{Bool, true, false, not, true≢false}
 use mathlib.Core.Logic.{⊎-elim}
 use mathlib.Core.List.{List}
-use Prim.Native.Nat.{ℕ, _+_, _*_, _≤_, _<_}
+use Prim.Native.Nat.{ℕ, _*_}
 use native.Mathlib.Omega.{arith}
 use native.Mathlib.Nat.{eq-zero-or-pos, mul-one, mul-zero}
 use borrow.Author.Tests.{not-true}
 use lib.ListN.{length}
 use Rattle.lists.specs.Fold.{sumOf, sum-times, sum-ones}
-use Rattle.system.specs.Graph.{Cycle, stop}
+use Rattle.system.specs.Graph.{stop}
 use Rattle.system.specs.System.{System, Solves, gains, costs, Losing, LosingWalk}
-use Rattle.system.specs.Rounds.{settledOf}
 use Rattle.system.specs.Walks.{along}
 use Rattle.system.specs.Laws.{unsettled-loses, loses-unsettled}
 use Rattle.legal.specs.Loop.{Loop, Pair}
@@ -21,6 +20,10 @@ use Rattle.legal.specs.Systems.{knots, knotted, lateness, Impossible}
 use Rattle.legal.specs.Shape.{Sound, Bodied}
 use Rattle.legal.specs.Limits.{timed}
 use Rattle.legal.specs.Splits.{losing-cycle, cycle-few}
+
+-- the loop has no knot
+abbrev pub Free : Loop → Type 0
+Free g = (es : List ℕ) → Knot g es → ⊥
 
 module _ (g : Loop) where
   knots-gains : (es : List ℕ) → gains (knots g) es ≡ 64 * sumOf (g .delay) es
@@ -58,6 +61,18 @@ module _ (g : Loop) where
       let c = losing-cycle (knots g) (w .0) (w .1) in
       (c .0, losing-knot s (c .0) (c .1))
 
+  -- a loop without a knot is not knotted
+  pub free-unknotted : Sound g → Free g → knotted g ≡ false
+  free-unknotted s free = go (knotted g) refl
+    where
+      go : (b : Bool) → knotted g ≡ b → knotted g ≡ false
+      go true q = let k = knotted-knot s q in absurd (free (k .0) (k .1))
+      go false q = q
+
+  -- a loop that is not knotted has no knot
+  pub unknotted-free : knotted g ≡ false → Free g
+  unknotted-free q es k = true≢false (sym (knot-knotted es k) ∙ q)
+
   -- starts rise along an edge that is not late, and fall by less than a body along one that is
   climbs : Pair → System
   climbs p = record { graph = g .graph; gain = λ e. p .length * lateness g p e; cost = λ e. 1 }
@@ -74,7 +89,7 @@ module _ (g : Loop) where
       (λ t. omega (arith, ap (λ (k : ℕ). p .length * k) (t .0) ∙ mul-one (p .length)))
       (timed g p e)
 
-  -- every knot has a negative limit sum, whatever the starts
+  -- every knot has a negative limit sum, whatever the starts in the body
   pub knot-impossible : (p : Pair) → Sound g → Bodied g p → (es : List ℕ) → Knot g es → Impossible g p es
   unfolding climbs gains costs
   knot-impossible p s b es k =

@@ -1,8 +1,8 @@
 -- The edge rule of starts in the body is the edge's limit on retimings: r(v) - r(u) is at most d, less 1 where the tail is late.
 -- Assumes nothing.
 use mathlib.Core.Path.{_≡_, refl}
-use mathlib.Core.Logic.{_⊎_, inl, inr, ⊎-elim}
-use Prim.Native.Nat.{ℕ, suc, _+_, _*_, _≤_, _<_}
+use mathlib.Core.Logic.{_⊎_, inl, inr}
+use Prim.Native.Nat.{ℕ, _+_, _*_, _≤_, _<_}
 use native.Mathlib.Omega.{arith}
 use native.Mathlib.Decide.{decLe}
 use native.Mathlib.Nat.{mul-le-mul-left, mul-suc}
@@ -27,12 +27,13 @@ module _ (g : Loop) (p : Pair) where
   abbrev pub LimitRule : ℕ → Type 0
   LimitRule e = p .retiming (g .graph .head e) + lateness g p e ≤ p .retiming (g .graph .tail e) + g .delay e
 
-  -- an edge is in time, or late by 1
+  -- the tail is finished when the head starts and k is 0, or it is not and k is 1
   abbrev pub Timed : ℕ → ℕ → Type 0
   Timed e k =
       ((k ≡ 0) × (finish g p (g .graph .tail e) ≤ p .start (g .graph .head e)))
       ⊎ ((k ≡ 1) × (p .start (g .graph .head e) < finish g p (g .graph .tail e)))
 
+  -- an edge is in time, or late by 1
   pub timed : (e : ℕ) → Timed e (lateness g p e)
   unfolding lateness
   timed e =

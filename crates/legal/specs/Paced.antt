@@ -3,21 +3,22 @@
 use mathlib.Core.Path.{_≡_}
 use mathlib.Core.Bool.{true}
 use mathlib.Core.List.{List, [], _∷_}
-use Prim.Native.Nat.{ℕ, _+_, _*_, _≤_, _<_}
+use Prim.Native.Nat.{ℕ, _*_, _≤_, _<_}
 use native.Mathlib.Omega.{arith}
 use native.Mathlib.Decide.{decLe}
 use native.Mathlib.Nat.{mul-add, mul-zero}
 use lib.ListN.{length}
 use Rattle.lists.specs.Fold.{sumOf, sum-times}
-use Rattle.system.specs.Graph.{Graph, Walk, stop}
-use Rattle.system.specs.System.{System, Solves, gains, costs, LosingWalk}
+use Rattle.system.specs.Graph.{Walk, stop}
+use Rattle.system.specs.System.{Solves, gains, costs, LosingWalk}
 use Rattle.system.specs.Rounds.{settledOf}
 use Rattle.system.specs.Laws.{settles-solved}
 use Rattle.legal.specs.Loop.{Loop, Pair, latency}
-use Rattle.legal.specs.Legal.{Legal, Knot}
+use Rattle.legal.specs.Legal.{Legal}
 use Rattle.legal.specs.Systems.{paces}
 use Rattle.legal.specs.Shape.{Sound}
 use Rattle.legal.specs.Limits.{EdgeRules}
+use Rattle.legal.specs.Knots.{Free}
 use Rattle.legal.specs.Balanced.{Balances, balanced-sound, balanced-settles}
 
 -- the latencies of the nodes that a walk's edges leave
@@ -70,7 +71,7 @@ module _ (g : Loop) (p : Pair) (h : EdgeRules g p) where
   paces-solved s = settles-solved (paces g (p .length)) (paces-settle s)
 
   -- where all edges keep the edge rule there is no knot
-  pub edges-free : Sound g → (es : List ℕ) → Knot g es → ⊥
+  pub edges-free : Sound g → Free g
   edges-free s es k =
       let at = stop (g .graph) es 0 in
       omega (
@@ -81,5 +82,5 @@ module _ (g : Loop) (p : Pair) (h : EdgeRules g p) where
       )
 
 -- the loop of a legal pair has no knot
-pub legal-free : (g : Loop) (p : Pair) → Sound g → Legal g p → (es : List ℕ) → Knot g es → ⊥
+pub legal-free : (g : Loop) (p : Pair) → Sound g → Legal g p → Free g
 legal-free g p s legal = edges-free g p (legal .edges) s

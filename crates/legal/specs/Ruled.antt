@@ -2,17 +2,17 @@
 -- Assumes nothing.
 use mathlib.Core.Path.{_≡_, _∙_, ap, subst}
 use mathlib.Core.Bool.{Bool, true, false}
-use Prim.Native.Nat.{ℕ, _+_, _*_, _≤_, _<_}
+use Prim.Native.Nat.{ℕ, _+_, _≤_, _<_}
 use native.Mathlib.Omega.{arith}
 use native.Mathlib.Nat.{not-le-of-lt, lt-of-not-le}
 use borrow.Author.Tests.{ltb-true, ltb-false, leb-true, leb-false, lt-ltb, le-ltb, le-leb, lt-leb}
 use lib.Dec.{leb, ltb}
-use Rattle.lists.specs.Pick.{pick, pick-ind, pick-true, pick-false}
-use Rattle.lists.specs.First.{firstFrom, First, first-is, first-only, first-past}
+use Rattle.lists.specs.Pick.{pick-ind, pick-true, pick-false}
+use Rattle.lists.specs.First.{First, first-is, first-only, first-past}
 use Rattle.answer.specs.declared.Refusal.{Refusal}
 use Rattle.answer.specs.declared.Refusal.the-variants.{None, Dependence, Units}
 use Rattle.legal.specs.Loop.{Loop, Pair}
-use Rattle.legal.specs.Legal.{finish, EdgeRule, UnitRule, busy}
+use Rattle.legal.specs.Legal.{EdgeRule, UnitRule, busy}
 use Rattle.legal.specs.Limits.{EdgeRules}
 use Rattle.legal.specs.Judging.{breaks, brokenEdge, over, overClass, overStep, unitsOf, rulesOf}
 
@@ -56,6 +56,7 @@ module _ (g : Loop) (p : Pair) where
   unfolding breaks
   kept-breaks e h = le-ltb _ _ h
 
+  -- an edge found broken is the lowest
   pub broken-lowest : brokenEdge g p < g .graph .edges → LowestEdge (brokenEdge g p)
   unfolding brokenEdge
   broken-lowest l =
@@ -66,15 +67,18 @@ module _ (g : Loop) (p : Pair) where
         below = λ d m. breaks-false d (f .before d (omega arith) m);
       }
 
+  -- where none is found all edges keep the rule
   pub broken-none : g .graph .edges ≤ brokenEdge g p → EdgeRules g p
   unfolding brokenEdge
   broken-none n e l = breaks-false e (first-is (breaks g p) (g .graph .edges) 0 .before e (omega arith) (omega arith))
 
+  -- the lowest is found
   pub lowest-broken : (e : ℕ) → LowestEdge e → brokenEdge g p ≡ e
   unfolding brokenEdge
   lowest-broken e t =
       first-only (breaks g p) (g .graph .edges) 0 e (omega arith) (omega (arith, t .edge)) (broken-breaks e (t .broken)) (λ d _ m. kept-breaks d (t .below d m))
 
+  -- where all keep the rule none is found
   pub kept-broken : EdgeRules g p → brokenEdge g p ≡ g .graph .edges
   unfolding brokenEdge
   kept-broken h = first-past (breaks g p) (g .graph .edges) 0 (λ e _ l. kept-breaks e (h e (omega arith))) ∙ omega arith
@@ -116,6 +120,7 @@ module _ (g : Loop) (p : Pair) where
   unfolding overStep crowded
   overStep-first = first-is crowded (p .length) 1
 
+  -- a step and class found over the units are the lowest
   pub over-lowest : overStep g p ≤ p .length → LowestOver (overStep g p) (overClass g p (overStep g p))
   unfolding crowded overClass
   over-lowest l =
@@ -131,9 +136,11 @@ module _ (g : Loop) (p : Pair) where
         before = λ j d one m n. crowded-false j (f .before j one m) d n;
       }
 
+  -- where none is found all steps keep the rule
   pub over-none : p .length < overStep g p → UnitRule g p
   over-none n q c one l m = crowded-false q (overStep-first .before q one (omega arith)) c m
 
+  -- the lowest are found
   pub lowest-over : (q c : ℕ) → LowestOver q c → (overStep g p ≡ q) × (overClass g p q ≡ c)
   unfolding overStep overClass crowded
   lowest-over q c t =
@@ -143,6 +150,7 @@ module _ (g : Loop) (p : Pair) where
         k,
       )
 
+  -- where all keep the rule none is found
   pub kept-over : UnitRule g p → overStep g p ≡ 1 + p .length
   unfolding overStep crowded
   kept-over h = first-past crowded (p .length) 1 (λ q one l. fits-crowded q (λ c m. h q c one (omega arith) m))
@@ -193,9 +201,10 @@ module _ (g : Loop) (p : Pair) where
   told-kept : Ruled None → EdgeRules g p × UnitRule g p
   told-kept (kept h u) = (h, u)
 
-  -- they refuse nothing exactly where all edges keep the edge rule and all steps the unit rule
+  -- where the rules refuse nothing, all edges keep the edge rule and all steps the unit rule
   pub rules-kept : rulesOf g p ≡ None → EdgeRules g p × UnitRule g p
   rules-kept q = told-kept (subst Ruled q ruled)
 
+  -- where both rules are kept, nothing is refused
   pub kept-rules : EdgeRules g p → UnitRule g p → rulesOf g p ≡ None
   kept-rules h u = ruled-is None (kept h u)

@@ -9,7 +9,7 @@ use Rattle.system.specs.Graph.{Joined}
 use Rattle.legal.specs.Loop.{Loop, Pair, loopOf, pairOf, graphOf, latency}
 use Rattle.legal.specs.Legal.{InBody}
 
--- a loop of 1 to 64 nodes, joined by its edges, with latencies 1 to 8
+-- a loop of 1 to 64 nodes and up to 256 edges between them, with latencies 1 to 8
 pub record Sound (g : Loop) : Type 0 where
   pub joined : Joined (g .graph)
   pub some : 1 ≤ g .graph .nodes
@@ -33,6 +33,7 @@ pub joined-form : (f : Form) → WellFormed f → Joined (graphOf f)
 unfolding graphOf
 joined-form f w = record { tails = λ e l. w .edge e l .from; heads = λ e l. w .edge e l .to }
 
+-- a well-formed form has a loop of 1 to 64 nodes and up to 256 edges, with latencies 1 to 8
 pub sound-form : (f : Form) → WellFormed f → Sound (loopOf f)
 unfolding loopOf graphOf
 sound-form f w = record {
@@ -40,10 +41,11 @@ sound-form f w = record {
   some = w .nodes .0;
   few = w .nodes .1;
   edges = w .edges;
-  works = λ v l. w .class (_) (w .node v l) .latency .0;
-  short = λ v l. w .class (_) (w .node v l) .latency .1;
+  works = λ v l. w .class _ (w .node v l) .latency .0;
+  short = λ v l. w .class _ (w .node v l) .latency .1;
 }
 
+-- and, where it has a schedule, starts in the body and retimings of 0 to 63, the smallest being 0
 pub placed-form : (f : Form) → WellFormed f → f .length ≢ 0 → Placed (loopOf f) (pairOf f)
 unfolding loopOf pairOf graphOf
 placed-form f w n =

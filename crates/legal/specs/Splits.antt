@@ -62,6 +62,7 @@ shorter s es w a b l m same =
       }
     ]
 
+-- it has an edge
 pub losing-some : (s : System) (es : List ℕ) → LosingWalk s es → 0 < length es
 unfolding gains costs sumOf
 losing-some s [] w = absurd (not-suc-le-zero (w .loss))
