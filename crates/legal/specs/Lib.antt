@@ -2,3 +2,12 @@ pub mod Loop
 pub mod Legal
 pub mod Systems
 pub mod Judging
+pub mod Shape
+pub mod Limits
+pub mod Splits
+pub mod Balanced
+pub mod Knots
+pub mod Paced
+pub mod Fitted
+pub mod Ruled
+pub mod Judged

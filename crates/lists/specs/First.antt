@@ -5,6 +5,7 @@ use mathlib.Core.Bool.{Bool, true, false, true≢false}
 use mathlib.Core.Logic.{_⊎_, inl, inr, ⊎-elim}
 use Prim.Native.Nat.{ℕ, zero, suc, _+_, _-_, _≤_, _<_}
 use native.Mathlib.Omega.{arith}
+use native.Mathlib.Decide.{decLt}
 use native.Mathlib.Nat.{not-suc-le-zero, eq-or-lt-of-le}
 use Rattle.lists.specs.Pick.{pick, pick-ind}
 
@@ -54,3 +55,20 @@ unfolding firstFrom
 first-end test n i whole h e =
     let left : n - i ≡ 0 = omega arith in
     rw left at e
+
+-- a number of the run that passes, with none before it, is the first
+pub first-only : (test : ℕ → Bool) (left i j : ℕ) → i ≤ j → j < i + left → test j ≡ true → ((k : ℕ) → i ≤ k → k < j → test k ≡ false) → firstFrom test left i ≡ j
+first-only test left i j from to passes before = go (first-is test left i) (decLt (firstFrom test left i) j) (decLt j (firstFrom test left i))
+  where
+    go : First test left i (firstFrom test left i) → Dec (firstFrom test left i < j) → Dec (j < firstFrom test left i) → firstFrom test left i ≡ j
+    go f (yes l) d = absurd (true≢false (sym (f .passes (omega arith)) ∙ before (firstFrom test left i) (f .from) l))
+    go f (no l) (yes m) = absurd (true≢false (sym passes ∙ f .before j from m))
+    go f (no l) (no m) = omega arith
+
+-- where none of the run passes, the first is past it
+pub first-past : (test : ℕ → Bool) (left i : ℕ) → ((k : ℕ) → i ≤ k → k < i + left → test k ≡ false) → firstFrom test left i ≡ i + left
+first-past test left i fails = go (first-is test left i) (decLt (firstFrom test left i) (i + left))
+  where
+    go : First test left i (firstFrom test left i) → Dec (firstFrom test left i < i + left) → firstFrom test left i ≡ i + left
+    go f (yes l) = absurd (true≢false (sym (f .passes l) ∙ fails (firstFrom test left i) (f .from) l))
+    go f (no l) = omega (arith, f .to)

@@ -4,9 +4,9 @@ use mathlib.Core.Path.{_≡_, refl}
 use mathlib.Core.Bool.{Bool}
 use mathlib.Core.List.{List, [], _∷_, _++_, map}
 use mathlib.Core.Logic.{_⊎_, inl, inr}
-use Prim.Native.Nat.{ℕ, zero, suc, _+_, _≤_, _<_, max}
+use Prim.Native.Nat.{ℕ, zero, suc, _+_, _*_, _≤_, _<_, max}
 use lib.ListN.{length, getD}
-use native.Mathlib.Nat.{add-zero, add-suc, suc-add, not-suc-le-zero}
+use native.Mathlib.Nat.{add-zero, add-suc, suc-add, not-suc-le-zero, mul-add}
 use native.Mathlib.Decide.{decLe}
 use native.Mathlib.Omega.{arith}
 use Rattle.lists.specs.Pick.{pick}
@@ -33,6 +33,16 @@ pub sum-append {ℓ} : {A : Type ℓ} (f : A → ℕ) (xs ys : List A) → sumOf
 unfolding sumOf
 sum-append f [] ys = omega arith
 sum-append f (x ∷ xs) ys = omega (arith, sum-append f xs ys)
+
+pub sum-times {ℓ} : {A : Type ℓ} (k : ℕ) (f : A → ℕ) (xs : List A) → sumOf (λ x. k * f x) xs ≡ k * sumOf f xs
+unfolding sumOf
+sum-times k f [] = omega arith
+sum-times k f (x ∷ xs) = omega (arith, sum-times k f xs, mul-add k (f x) (sumOf f xs))
+
+pub sum-ones {ℓ} : {A : Type ℓ} (xs : List A) → sumOf (λ x. 1) xs ≡ length xs
+unfolding sumOf
+sum-ones [] = refl
+sum-ones (x ∷ xs) = omega (arith, sum-ones xs)
 
 pub sum-snoc : (f : ℕ → ℕ) (a n : ℕ) → sumOf f (span a (suc n)) ≡ sumOf f (span a n) + f (a + n)
 unfolding sumOf span

@@ -66,3 +66,15 @@ pigeon (suc n) f h = go (placeOf f (f (suc n)) (suc n)) (λ g. pigeon n g)
           late-le = omega arith;
           same = close-inj x (f (t .early)) (f (t .late)) (k (t .early) (omega arith)) (k (t .late) (omega arith)) (t .same);
         }
+
+-- among f at places 0 .. n two are equal, or all are apart
+pub twice-or-apart : (f : ℕ → ℕ) (n : ℕ) → Twice f n ⊎ ((a b : ℕ) → a < b → b ≤ n → f a ≢ f b)
+twice-or-apart f zero = inr (λ a b l m e. omega arith)
+twice-or-apart f (suc n) = go (placeOf f (f (suc n)) (suc n)) (twice-or-apart f n)
+  where
+    go : ((i : ℕ) × (i < suc n) × (f i ≡ f (suc n))) ⊎ ((i : ℕ) → i < suc n → f i ≢ f (suc n))
+        → Twice f n ⊎ ((a b : ℕ) → a < b → b ≤ n → f a ≢ f b) → Twice f (suc n) ⊎ ((a b : ℕ) → a < b → b ≤ suc n → f a ≢ f b)
+    go (inl w) r = inl (record { early = w .0; late = suc n; early-lt = w .1; late-le = omega arith; same = w .2 })
+    go (inr k) (inl t) = inl (record { early = t .early; late = t .late; early-lt = t .early-lt; late-le = omega arith; same = t .same })
+    go (inr k) (inr h) =
+        inr (λ a b l m e. ⊎-elim (λ q. k a (omega arith) (e ∙ ap f q)) (λ q. h a b l (le-of-suc-le-suc q) e) (eq-or-lt-of-le m))

@@ -1,0 +1,121 @@
+-- Losing closed walks hold losing cycles: one that meets a node twice splits into two, and one of these loses.
+-- Assumes nothing.
+use mathlib.Core.Path.{_≡_, sym, _∙_, ap, subst}
+use mathlib.Core.Logic.{_⊎_, inl, inr, _≢_}
+use mathlib.Core.List.{List, [], _∷_, _++_}
+use Prim.Native.Nat.{ℕ, zero, suc, _+_, _-_, _≤_, _<_}
+use lib.ListN.{length, getD, take, drop, length-append, length-take, length-drop}
+use native.Mathlib.Omega.{arith}
+use native.Mathlib.Decide.{decLe, decLt}
+use native.Mathlib.Nat.{not-suc-le-zero, le-of-suc-le-suc}
+use Rattle.lists.specs.Fold.{sumOf}
+use Rattle.lists.specs.Pigeon.{pigeon, Twice, twice-or-apart}
+use Rattle.system.specs.Graph.{Graph, Joined, Walk, Cycle, stop}
+use Rattle.system.specs.System.{System, gains, costs, Losing, LosingWalk}
+use Rattle.system.specs.Walks.{node, walk-take, walk-drop, walk-join, node-drop, sum-cut}
+
+-- after i edges a walk is where its edge number i leaves
+pub node-stop : (g : Graph) (u : ℕ) (es : List ℕ) (v i : ℕ) → Walk g u es v → i < length es → node g u es i ≡ stop g es i
+node-stop g u [] v i w l = absurd (not-suc-le-zero l)
+node-stop g u (e ∷ es) v zero w l = sym (w .1)
+node-stop g u (e ∷ es) v (suc i) w l = node-stop g (g .head e) es v i (w .2) (le-of-suc-le-suc l)
+
+-- a losing closed walk with fewer edges
+pub record Shorter (s : System) (es : List ℕ) : Type 0 where
+  pub walk : List ℕ
+  pub losing : LosingWalk s walk
+  pub fewer : length walk < length es
+
+-- a losing closed walk that comes to a node twice splits there, and one of its two parts loses
+pub shorter : (s : System) (es : List ℕ) (w : LosingWalk s es) (a b : ℕ) → a < b → b < length es
+    → node (s .graph) (w .from) es a ≡ node (s .graph) (w .from) es b → Shorter s es
+unfolding gains costs
+shorter s es w a b l m same =
+    let g : Graph = s .graph in
+    let u : ℕ = w .from in
+    let c : ℕ = node g u es a in
+    let k : ℕ = b - a in
+    let ds : List ℕ = drop a es in
+    let inner : List ℕ = take k ds in
+    let outer : List ℕ = take a es ++ drop k ds in
+    let at-b : a + k ≡ b = omega arith in
+    let back : node g c ds k ≡ c = node-drop g u es a k ∙ ap (node g u es) at-b ∙ sym same in
+    let rest : Walk g c ds u = walk-drop g u es u a (w .closed) in
+    let around : Walk g c inner c = subst (λ n. Walk g c inner n) back (walk-take g c ds u k rest) in
+    let on : Walk g c (drop k ds) u = subst (λ n. Walk g n (drop k ds) u) back (walk-drop g c ds u k rest) in
+    let gain-sum = sum-cut (s .gain) es a k in
+    let cost-sum = sum-cut (s .cost) es a k in
+    elim (decLt (gains s inner) (costs s inner)) [
+      | yes h ↦ record {
+        walk = inner;
+        losing = record { from = c; closed = around; loss = h };
+        fewer = simp (length-take, length-drop) (omega arith);
+      }
+      | no h ↦ record {
+        walk = outer;
+        losing = record {
+          from = u;
+          closed = walk-join g u (take a es) c (drop k ds) u (walk-take g u es u a (w .closed)) on;
+          loss = omega (arith, w .loss);
+        };
+        fewer = simp (length-append, length-take, length-drop) (omega arith);
+      }
+    ]
+
+-- it has an edge
+pub losing-some : (s : System) (es : List ℕ) → LosingWalk s es → 0 < length es
+unfolding gains costs sumOf
+losing-some s [] w = absurd (not-suc-le-zero (w .loss))
+losing-some s (e ∷ es) w = omega arith
+
+-- a losing cycle is a losing closed walk
+pub losing-walk : (s : System) (es : List ℕ) → Losing s es → LosingWalk s es
+losing-walk s es c = record { from = stop (s .graph) es 0; closed = c .cycle .closed; loss = c .loss }
+
+-- a losing closed walk that comes to no node twice is a cycle
+apart-losing : (s : System) (es : List ℕ) (w : LosingWalk s es)
+    → ((a b : ℕ) → a < b → b ≤ length es - 1 → node (s .graph) (w .from) es a ≢ node (s .graph) (w .from) es b) → Losing s es
+apart-losing s es w apart =
+    let some : 0 < length es = losing-some s es w in
+    let at : (i : ℕ) → i < length es → node (s .graph) (w .from) es i ≡ stop (s .graph) es i =
+    λ i l. node-stop (s .graph) (w .from) es (w .from) i (w .closed) l in
+    record {
+      cycle = record {
+        some = some;
+        closed = subst (λ u. Walk (s .graph) u es u) (at 0 some) (w .closed);
+        apart = λ a b l m same. apart a b l (omega arith) (at a (omega arith) ∙ same ∙ sym (at b m));
+      };
+      loss = w .loss;
+    }
+
+splits : (s : System) (n : ℕ) (es : List ℕ) → length es ≤ n → LosingWalk s es → (fs : List ℕ) × Losing s fs
+splits s zero es l w = absurd (omega (arith, losing-some s es w))
+splits s (suc n) es l w = go (splits s n) (twice-or-apart (node (s .graph) (w .from) es) (length es - 1))
+  where
+    go : ((fs : List ℕ) → length fs ≤ n → LosingWalk s fs → (fs : List ℕ) × Losing s fs)
+        → Twice (node (s .graph) (w .from) es) (length es - 1) ⊎ ((a b : ℕ) → a < b → b ≤ length es - 1 → node (s .graph) (w .from) es a ≢ node (s .graph) (w .from) es b)
+        → (fs : List ℕ) × Losing s fs
+    go ih (inl t) =
+        let r = shorter s es w (t .early) (t .late) (t .early-lt) (omega (arith, losing-some s es w)) (t .same) in
+        ih (r .walk) (omega (arith, r .fewer)) (r .losing)
+    go ih (inr apart) = (es, apart-losing s es w apart)
+
+-- where any closed walk loses, a cycle does
+pub losing-cycle : (s : System) (es : List ℕ) → LosingWalk s es → (fs : List ℕ) × Losing s fs
+losing-cycle s es w = splits s (length es) es (omega arith) w
+
+-- the edges of a walk are edges of the graph
+pub walk-edge : (g : Graph) (u : ℕ) (es : List ℕ) (v i : ℕ) → Walk g u es v → i < length es → getD es i 0 < g .edges
+walk-edge g u [] v i w l = absurd (not-suc-le-zero l)
+walk-edge g u (e ∷ es) v zero w l = w .0
+walk-edge g u (e ∷ es) v (suc i) w l = walk-edge g (g .head e) es v i (w .2) (le-of-suc-le-suc l)
+
+-- a cycle has no more edges than the graph has nodes
+pub cycle-few : (g : Graph) → Joined g → (es : List ℕ) → Cycle g es → length es ≤ g .nodes
+cycle-few g j es c =
+    elim (decLe (length es) (g .nodes)) [
+      | yes h ↦ h
+      | no h ↦
+          let t : Twice (stop g es) (g .nodes) = pigeon (g .nodes) (stop g es) (λ i l. j .tails (getD es i 0) (walk-edge g (stop g es 0) es (stop g es 0) i (c .closed) (omega arith))) in
+          absurd (c .apart (t .early) (t .late) (t .early-lt) (omega (arith, t .late-le)) (t .same))
+    ]
