@@ -1,0 +1,36 @@
+use Rattle.system.specs.System.{systemOf}
+use mathlib.Core.Path.{_≡_, refl, sym, ap, _∙_}
+use mathlib.Core.Bool.{true, false, true≢false}
+use mathlib.Core.Logic.{_⊎_, inl, inr, ⊎-elim}
+use Prim.Native.Nat.{ℕ, zero, suc, _<_}
+use native.Mathlib.Omega.{arith}
+use Rattle.lists.specs.Place.{zeros-at}
+use Rattle.system.specs.declared.Settled.{Settled}
+use Rattle.solve.proofs.Laws.{when-settled, when-unsettled}
+use borrow.Author.Needs.{needs}
+use Rattle.solve.proofs.solve.Statement.{statement}
+use Rattle.solve.proofs.solve.Tie as tie
+use Rattle.solve.proofs.solve.Reads as reads
+use Rattle.solve.proofs.solve.Lts as lts
+use Rattle.cycle.proofs.shortest_cycle.Reads as shortest-cycle-reads
+use Rattle.system.proofs.settle.Reads as settle-reads
+
+settle-requires : tie.Need-settle-requires
+settle-requires c κs = search needs
+
+returns : tie.Need-returns
+returns c = when-settled _ _ (c .before .before .settle .ensures) (c .if1 .taken)
+
+shortest-cycle-requires : tie.Need-shortest-cycle-requires
+shortest-cycle-requires c κs = search needs
+
+returns-2 : tie.Need-returns-2
+unfolding systemOf
+returns-2 c =
+    let a = c .before .before .before .before in
+    let g = a .args in
+    let s = systemOf (g .nodes) (g .edges) (g .tails .now) (g .heads .now) (g .gains .now) (g .costs .now) in
+    when-unsettled s _ (c .before .before .before .settle .ensures) _ (c .before .if1 .left) (a .pre .1) (a .pre .0 .0) (a .pre .0 .1) (c .shortest-cycle .ensures)
+
+pub solve-spec : {M : Type 1} → statement M
+solve-spec = tie.close (tie.spec settle-requires returns shortest-cycle-requires returns-2)
