@@ -1,6 +1,10 @@
 // What comes back: the refusals of the scope's table, their numbers and details, and cycles.
 ghost use mathlib.Core.Path.{_≡_};
-ghost use Rattle.answer.specs.Refused.{numberOf, detailsOf, fine};
+ghost use lib.Dec.{ltb};
+ghost use lib.Seq.{sets};
+ghost use Rattle.lists.specs.Pick.{pick};
+ghost use Rattle.answer.specs.Refused.{numberOf, detailsOf, fine, details};
+ghost use Rattle.answer.specs.Outcome.{noCycle, toldOf, cycleList, answerList};
 
 // Every refusal, in the table's order, with its details in the table's order. `None`: it answers.
 // A cycle that proves a refusal stands beside it, in a `Cycle`.
@@ -76,111 +80,27 @@ impl Refusal {
         ensures { λ d. ⌜ d ≡ detailsOf self ⌝ }
     {
         match self {
-            Refusal::None => Details {
-                first: 0,
-                second: 0,
-                third: 0,
-            },
-            Refusal::Short(a) => Details {
-                first: a,
-                second: 0,
-                third: 0,
-            },
-            Refusal::Mark(a) => Details {
-                first: a,
-                second: 0,
-                third: 0,
-            },
-            Refusal::Version(a) => Details {
-                first: a,
-                second: 0,
-                third: 0,
-            },
-            Refusal::Count(a) => Details {
-                first: a,
-                second: 0,
-                third: 0,
-            },
-            Refusal::Machine(a) => Details {
-                first: a,
-                second: 0,
-                third: 0,
-            },
-            Refusal::Node(a) => Details {
-                first: a,
-                second: 0,
-                third: 0,
-            },
-            Refusal::Edge(a) => Details {
-                first: a,
-                second: 0,
-                third: 0,
-            },
-            Refusal::Start(a) => Details {
-                first: a,
-                second: 0,
-                third: 0,
-            },
-            Refusal::Retiming(a) => Details {
-                first: a,
-                second: 0,
-                third: 0,
-            },
-            Refusal::Tail(a) => Details {
-                first: a,
-                second: 0,
-                third: 0,
-            },
-            Refusal::Bare => Details {
-                first: 0,
-                second: 0,
-                third: 0,
-            },
-            Refusal::Knot => Details {
-                first: 0,
-                second: 0,
-                third: 0,
-            },
-            Refusal::Dependence(a) => Details {
-                first: a,
-                second: 0,
-                third: 0,
-            },
-            Refusal::NoRetiming => Details {
-                first: 0,
-                second: 0,
-                third: 0,
-            },
-            Refusal::Units(a, b) => Details {
-                first: a,
-                second: b,
-                third: 0,
-            },
-            Refusal::Size(a) => Details {
-                first: a,
-                second: 0,
-                third: 0,
-            },
-            Refusal::Long => Details {
-                first: 0,
-                second: 0,
-                third: 0,
-            },
-            Refusal::Room(a) => Details {
-                first: a,
-                second: 0,
-                third: 0,
-            },
-            Refusal::Early(a, b, c) => Details {
-                first: a,
-                second: b,
-                third: c,
-            },
-            Refusal::Busy(a, b, c) => Details {
-                first: a,
-                second: b,
-                third: c,
-            },
+            Refusal::None => numbers_of(0, 0, 0),
+            Refusal::Short(a) => numbers_of(a, 0, 0),
+            Refusal::Mark(a) => numbers_of(a, 0, 0),
+            Refusal::Version(a) => numbers_of(a, 0, 0),
+            Refusal::Count(a) => numbers_of(a, 0, 0),
+            Refusal::Machine(a) => numbers_of(a, 0, 0),
+            Refusal::Node(a) => numbers_of(a, 0, 0),
+            Refusal::Edge(a) => numbers_of(a, 0, 0),
+            Refusal::Start(a) => numbers_of(a, 0, 0),
+            Refusal::Retiming(a) => numbers_of(a, 0, 0),
+            Refusal::Tail(a) => numbers_of(a, 0, 0),
+            Refusal::Bare => numbers_of(0, 0, 0),
+            Refusal::Knot => numbers_of(0, 0, 0),
+            Refusal::Dependence(a) => numbers_of(a, 0, 0),
+            Refusal::NoRetiming => numbers_of(0, 0, 0),
+            Refusal::Units(a, b) => numbers_of(a, b, 0),
+            Refusal::Size(a) => numbers_of(a, 0, 0),
+            Refusal::Long => numbers_of(0, 0, 0),
+            Refusal::Room(a) => numbers_of(a, 0, 0),
+            Refusal::Early(a, b, c) => numbers_of(a, b, c),
+            Refusal::Busy(a, b, c) => numbers_of(a, b, c),
         }
     }
 
@@ -190,4 +110,76 @@ impl Refusal {
     {
         self.number() == 0
     }
+}
+
+impl Cycle {
+    // No cycle.
+    pub fn none() -> Self
+        ensures { λ c. ⌜ c ≡ noCycle ⌝ }
+    {
+        Cycle {
+            count: 0,
+            edges: [0; 64],
+        }
+    }
+}
+
+// An answer's numbers.
+pub fn numbers_of(first: u32, second: u32, third: u32) -> Details
+    ensures { λ d. ⌜ d ≡ details first second third ⌝ }
+{
+    Details {
+        first,
+        second,
+        third,
+    }
+}
+
+// A refusal's details; where nothing is refused, the answer's numbers.
+fn told_of(refusal: Refusal, numbers: Details) -> Details
+    ensures { λ d. ⌜ d ≡ toldOf refusal numbers ⌝ }
+{
+    let details = refusal.details();
+    if refusal.is_fine() {
+        return numbers;
+    }
+    details
+}
+
+// What stands at a place of a cycle: its edge there, 0 past its count.
+fn edge_within(edge: u16, place: usize, count: u8) -> u32
+    ensures { λ r. ⌜ r ≡ pick (ltb place count) edge 0 ⌝ }
+{
+    if place < count as usize {
+        return edge as u32;
+    }
+    0
+}
+
+// The edges of a cycle, then 0, into the places after its count.
+fn fill_cycle(answer: &mut [u32; 69], cycle: Cycle)
+    ensures { λ _. ⌜ now (answer .exit) ≡ sets (now (answer .entry)) 5 (cycleList cycle) ⌝ }
+{
+    let mut i: usize = 0;
+    while i < 64 {
+        answer[5 + i] = edge_within(cycle.edges[i], i, cycle.count);
+        i += 1;
+    }
+}
+
+// The answer as others link it, in every place; the refusal's number comes back as well.
+pub fn fill(answer: &mut [u32; 69], refusal: Refusal, numbers: Details, cycle: Cycle) -> u32
+    ensures { λ r. ⌜ (r ≡ numberOf refusal) × (now (answer .exit) ≡ answerList refusal numbers cycle) ⌝ }
+{
+    let number = refusal.number();
+    let told = told_of(refusal, numbers);
+    // what stood there does not matter
+    *answer = [0; 69];
+    answer[0] = number;
+    answer[1] = told.first;
+    answer[2] = told.second;
+    answer[3] = told.third;
+    answer[4] = cycle.count as u32;
+    fill_cycle(answer, cycle);
+    number
 }

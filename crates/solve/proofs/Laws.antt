@@ -14,7 +14,8 @@ use Rattle.system.specs.System.{System}
 use Rattle.system.specs.Rounds.{settledOf}
 use Rattle.system.specs.Laws.{unsettled-loses}
 use Rattle.cycle.specs.Found.{FoundCycle}
-use Rattle.solve.specs.Solved.{noCycle, Solved}
+use Rattle.answer.specs.Outcome.{noCycle}
+use Rattle.solve.specs.Solved.{Solved}
 
 module _ (s : System) (t : Settled) (e : t ≡ settledOf s) where
   pub when-settled : t .settled ≡ true → Solved s (record { settled = true; values = t .values; cycle = noCycle })

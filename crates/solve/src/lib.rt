@@ -30,10 +30,7 @@ pub fn solve<'a>(
         return Solution {
             settled: true,
             values,
-            cycle: Cycle {
-                count: 0,
-                edges: [0; 64],
-            },
+            cycle: Cycle::none(),
         };
     }
     Solution {

@@ -1,0 +1,50 @@
+-- Runs of stores into a list, one after the other, and those of a cycle's edges.
+-- Assumes nothing.
+use mathlib.Core.Path.{_≡_, refl, ap, sym, _∙_}
+use mathlib.Core.List.{List, [], _∷_, _++_, map}
+use Prim.Native.Nat.{ℕ, zero, suc, _+_, _≤_}
+use native.Mathlib.Nat.{add-zero, add-suc, suc-add, zero-add}
+use native.Mathlib.Numerals.{add-one}
+use native.Mathlib.Omega.{arith}
+use lib.ListN.{length, take, length-map, length-append}
+use lib.Seq.{sets, sets-eq, length-sets, take-append-seam, take-all}
+use Rattle.lists.specs.Span.{span, span-length}
+use Rattle.answer.specs.declared.Cycle.{Cycle}
+use Rattle.answer.specs.declared.Refusal.{Refusal}
+use Rattle.answer.specs.declared.Details.{Details}
+use Rattle.answer.specs.Outcome.{cycleEdge, cycleList, outcomeList, toldOf, answerList}
+
+pub sets-append : (vs ws l : List ℕ) (i : ℕ) → sets l i (vs ++ ws) ≡ sets (sets l i vs) (i + length vs) ws
+sets-append [] ws l i = rw add-zero
+sets-append (v ∷ vs) ws l i = rw (add-suc, ← suc-add) (sets-append vs ws _ (suc i))
+
+-- the front of a list is what was stored there
+pub sets-front : (l vs : List ℕ) → length vs ≤ length l → take (length vs) (sets l 0 vs) ≡ vs
+sets-front l vs h = rw (sets-eq vs l 0 (rw zero-add h)) (take-append-seam vs _)
+
+-- a list as long as the one that it is stored into
+pub sets-whole : (l vs : List ℕ) → length vs ≡ length l → sets l 0 vs ≡ vs
+sets-whole l vs h = sym (take-all (length vs) _ (omega (arith, length-sets l 0 vs))) ∙ sets-front l vs (omega arith)
+
+map-snoc : (g : ℕ → ℕ) (a n : ℕ) → map g (span a (suc n)) ≡ map g (span a n) ++ (g (a + n) ∷ [])
+unfolding span
+map-snoc g a zero = rw add-zero
+map-snoc g a (suc n) = ap (λ xs. g a ∷ xs) (rw (add-suc, ← suc-add) (map-snoc g (suc a) n))
+
+-- one place more of a run that a function fills
+pub place-more : (l out : List ℕ) (g : ℕ → ℕ) (at i a : ℕ) → out ≡ sets l at (map g (span 0 i)) → a ≡ g i → sets out (at + i) (a ∷ []) ≡ sets l at (map g (span 0 (i + 1)))
+place-more l out g at i a e h =
+    let n : length (map g (span 0 i)) ≡ i = length-map (span 0 i) g ∙ span-length 0 i in
+    rw (e, h, add-one, map-snoc g 0 i, sets-append (map g (span 0 i)), n, zero-add)
+
+cycle-length : (c : Cycle) → length (cycleList c) ≡ 64
+unfolding cycleList
+cycle-length c = length-map (span 0 64) (cycleEdge c) ∙ span-length 0 64
+
+-- the first five places, then the cycle's, are the whole answer
+pub answer-whole : (l first last : List ℕ) (r : Refusal) (numbers : Details) (c : Cycle) → length l ≡ 69
+    → first ≡ sets l 0 (outcomeList r (toldOf r numbers) (c .count)) → last ≡ sets first 5 (cycleList c) → last ≡ answerList r numbers c
+unfolding answerList outcomeList
+answer-whole l first last r numbers c h ef el =
+    let front = outcomeList r (toldOf r numbers) (c .count) in
+    rw (el, ef) (sym (sets-append front (cycleList c) l 0) ∙ sets-whole l (front ++ cycleList c) (omega (arith, length-append front (cycleList c), cycle-length c)))

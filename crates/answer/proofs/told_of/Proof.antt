@@ -1,0 +1,26 @@
+use Rattle.lists.specs.Pick.{pick}
+use Rattle.answer.specs.Outcome.{toldOf}
+use borrow.Author.Needs.{needs}
+use Rattle.answer.proofs.told_of.Statement.{statement}
+use Rattle.answer.proofs.told_of.Tie as tie
+use Rattle.answer.proofs.told_of.Reads as reads
+use Rattle.answer.proofs.told_of.Lts as lts
+use Rattle.answer.proofs.Refusal.details.Reads as details-reads
+use Rattle.answer.proofs.Refusal.is_fine.Reads as is-fine-reads
+
+details-requires : tie.Need-details-requires
+details-requires c κs = search needs
+
+is-fine-requires : tie.Need-is-fine-requires
+is-fine-requires c κs = search needs
+
+returns : tie.Need-returns
+unfolding toldOf pick
+returns c = rw (← c .before .is-fine .ensures, c .if1 .taken)
+
+returns-2 : tie.Need-returns-2
+unfolding toldOf pick
+returns-2 c = rw (← c .before .is-fine .ensures, c .if1 .left) (c .before .before .details .ensures)
+
+pub told-of-spec : {M : Type 1} → statement M
+told-of-spec = tie.close (tie.spec details-requires is-fine-requires returns returns-2)

@@ -1,0 +1,33 @@
+-- The ways that rewriting a record goes.
+-- Assumes nothing.
+use mathlib.Core.Path.{_≡_, refl, ap, _∙_}
+use mathlib.Core.Bool.{true, false}
+use mathlib.Core.List.{List}
+use Prim.Native.Nat.{ℕ}
+use lib.ListN.{length}
+use Rattle.lists.specs.Pick.{pick}
+use Rattle.answer.specs.Refused.{fine, numberOf, details}
+use Rattle.answer.specs.Outcome.{noCycle, answerList}
+use Rattle.answer.specs.declared.Details.{Details}
+use Rattle.answer.specs.declared.Cycle.{Cycle}
+use Rattle.reader.specs.declared.Record.{Record}
+use Rattle.reader.specs.Reading.{readForm}
+use Rattle.writer.specs.declared.Written.{Written}
+use Rattle.writer.specs.Writing.{written, bufferAfter}
+use Rattle.rsk_c.specs.Rewrite.{rewritten, rewrittenOut, rewrittenAnswer}
+
+module _ (s out : List ℕ) (r : Record) (back : r ≡ readForm s) where
+  pub refused : fine (r .refusal) ≡ false → (_≡_ {A = Written} (record { refusal = r .refusal; size = 0 }) (rewritten s (length out))) × (out ≡ rewrittenOut s out)
+  unfolding rewritten rewrittenOut pick
+  refused e = (rw (← back, e), rw (← back, e))
+
+  pub passed : fine (r .refusal) ≡ true → (w : Written) (last : List ℕ) → w ≡ written (r .form) (length out) → last ≡ bufferAfter (r .form) out
+      → (w ≡ rewritten s (length out)) × (last ≡ rewrittenOut s out)
+  unfolding rewritten rewrittenOut pick
+  passed e w last ew el = (rw (← back, e) ew, rw (← back, e) el)
+
+-- the answer that says so
+pub answered : (s last : List ℕ) (room number : ℕ) (w : Written) (numbers : Details) (cycle : Cycle) → w ≡ rewritten s room → numbers ≡ details (w .size) 0 0 → cycle ≡ noCycle
+    → number ≡ numberOf (w .refusal) → last ≡ answerList (w .refusal) numbers cycle → (number ≡ numberOf (rewritten s room .refusal)) × (last ≡ rewrittenAnswer s room)
+unfolding rewrittenAnswer
+answered s last room number w numbers cycle ew en ec e el = (e ∙ ap (λ x. numberOf (x .refusal)) ew, el ∙ rw (en, ec, ew))

@@ -1,0 +1,74 @@
+use mathlib.Core.Path.{sym, _∙_}
+use borrow.Author.Tests.{not-true, not-false}
+use Rattle.rsk_c.proofs.Laws.{refused, passed, answered}
+use borrow.Author.Needs.{needs}
+use Rattle.rsk_c.proofs.rsk_rewrite.Statement.{statement}
+use Rattle.rsk_c.proofs.rsk_rewrite.Tie as tie
+use Rattle.rsk_c.proofs.rsk_rewrite.Reads as reads
+use Rattle.rsk_c.proofs.rsk_rewrite.Lts as lts
+use Rattle.answer.proofs.Cycle.none.Reads as none-reads
+use Rattle.answer.proofs.Refusal.is_fine.Reads as is-fine-reads
+use Rattle.answer.proofs.fill.Reads as fill-reads
+use Rattle.answer.proofs.numbers_of.Reads as numbers-of-reads
+use Rattle.reader.proofs.read.Reads as read-reads
+use Rattle.writer.proofs.write.Reads as write-reads
+
+read-requires : tie.Need-read-requires
+read-requires c κs = search needs
+
+is-fine-requires : tie.Need-is-fine-requires
+is-fine-requires c κs = search needs
+
+numbers-of-requires : tie.Need-numbers-of-requires
+numbers-of-requires c κs = search needs
+
+none-requires : tie.Need-none-requires
+none-requires c κs = search needs
+
+fill-requires : tie.Need-fill-requires
+fill-requires c κs = search needs
+
+returns : tie.Need-returns
+returns c =
+    let w = refused _ _ _ (c .before .before .before .before .before .before .read .ensures) (sym (c .before .before .before .before .before .is-fine .ensures) ∙ not-true _ (c .before .before .before .before .if1 .taken)) in
+    let a = answered _ _ _ _ _ _ _ (w .0) (c .before .before .numbers-of .ensures) (c .before .none .ensures) (c .fill .ensures .0) (c .fill .ensures .1) in
+    (a .0, (w .1, a .1))
+
+write-requires : tie.Need-write-requires
+write-requires c κs = search needs
+
+numbers-of-requires-2 : tie.Need-numbers-of-requires-2
+numbers-of-requires-2 c κs = search needs
+
+none-requires-2 : tie.Need-none-requires-2
+none-requires-2 c κs = search needs
+
+fill-requires-2 : tie.Need-fill-requires-2
+fill-requires-2 c κs = search needs
+
+same-length : tie.Need-same-length
+same-length c = search needs
+
+returns-2 : tie.Need-returns-2
+returns-2 c =
+    let o = c .before .before .before .before .before .before in
+    let w = passed _ _ _ (c .before .before .before .before .before .before .before .before .before .before .before .read .ensures) (sym (c .before .before .before .before .before .before .before .before .before .before .is-fine .ensures) ∙ not-false _ (c .before .before .before .before .before .before .before .before .before .if1 .left)) _ _ (o .write .ensures .0) (o .write .ensures .1) in
+    let a = answered _ _ _ _ _ _ _ (w .0) (c .before .before .numbers-of2 .ensures) (c .before .none2 .ensures) (c .fill2 .ensures .0) (c .fill2 .ensures .1) in
+    (a .0, (w .1, a .1))
+
+pub rsk-rewrite-spec : {M : Type 1} → statement M
+rsk-rewrite-spec =
+    tie.close
+    (tie.spec
+    read-requires
+    is-fine-requires
+    numbers-of-requires
+    none-requires
+    fill-requires
+    returns
+    write-requires
+    numbers-of-requires-2
+    none-requires-2
+    fill-requires-2
+    same-length
+    returns-2)

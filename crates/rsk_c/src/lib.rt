@@ -1,0 +1,29 @@
+// What C and Rust link. Each function takes a record's bytes first and an answer last, and has no requires.
+ghost use mathlib.Core.Path.{_≡_};
+ghost use lib.ListN.{length};
+ghost use Rattle.answer.specs.Refused.{numberOf};
+ghost use Rattle.rsk_c.specs.Rewrite.{rewritten, rewrittenOut, rewrittenAnswer};
+use answer::Cycle;
+
+// The record read and written again; its size.
+#[no_mangle]
+pub extern "C" fn rsk_rewrite(record: &[u8], out: &mut [u8], answer: &mut [u32; 69]) -> u32
+    ensures { λ r. ⌜ r ≡ numberOf (rewritten (now («record» .entry)) (length (now (out .entry))) .refusal) ⌝ }
+    ensures { λ _. ⌜ now (out .exit) ≡ rewrittenOut (now («record» .entry)) (now (out .entry)) ⌝ }
+    ensures { λ _. ⌜ now (answer .exit) ≡ rewrittenAnswer (now («record» .entry)) (length (now (out .entry))) ⌝ }
+{
+    let read = reader::read(record);
+    let refusal = read.refusal;
+    if !refusal.is_fine() {
+        return answer::fill(answer, refusal, answer::numbers_of(0, 0, 0), Cycle::none());
+    }
+    let form = read.form;
+    let written = writer::write(form, out);
+    let refused = written.refusal;
+    answer::fill(
+        answer,
+        refused,
+        answer::numbers_of(written.size, 0, 0),
+        Cycle::none(),
+    )
+}

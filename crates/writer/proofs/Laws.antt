@@ -1,0 +1,94 @@
+-- Runs of bytes laid one after the other.
+-- Assumes nothing.
+use mathlib.Core.Path.{_≡_, refl, ap, sym, _∙_}
+use mathlib.Core.List.{List, [], _∷_, _++_}
+use mathlib.Core.Bool.{true, false}
+use Prim.Native.Nat.{ℕ, _+_, _≤_, _<_, min}
+use native.Mathlib.Nat.{add-zero, zero-add}
+use native.Mathlib.Numerals.{add-one}
+use native.Mathlib.Omega.{arith}
+use lib.ListN.{length, getD, take, set, length-append}
+use lib.Seq.{sets, length-sets, take-suc, take-all, length-take-le}
+use borrow.Author.Tests.{le-ltb, lt-ltb}
+use Rattle.lists.specs.Pick.{pick}
+use Rattle.answer.specs.Refused.{fine}
+use Rattle.answer.specs.declared.Refusal.the-variants.{None, Room}
+use Rattle.answer.proofs.Laws.{sets-append, sets-front}
+use Rattle.form.specs.declared.Form.{Form}
+use Rattle.form.specs.Places.{classOf, nodeOf, edgeOf, startOf, retimingOf, scheduled}
+use Rattle.reader.specs.declared.Record.{Record}
+use Rattle.reader.specs.Reading.{readForm}
+use Rattle.writer.specs.declared.Written.{Written}
+use Rattle.writer.specs.Layout.{classBytes, nodeBytes, edgeBytes, startBytes, headerBytes, rows, classRows, nodeRows, edgeRows, startRows, layout}
+use Rattle.writer.specs.Laid.{Laid}
+use Rattle.writer.specs.Writing.{refusalOf, written, bufferAfter}
+
+module _ (l : List ℕ) (at : ℕ) where
+  pub nothing : Laid l at [] l at
+  nothing = record { is = refl; ends = sym (add-zero at) }
+
+  -- one run, then another
+  pub both : (vs ws m n : List ℕ) (e f : ℕ) → Laid l at vs m e → Laid m e ws n f → Laid l at (vs ++ ws) n f
+  both vs ws m n e f x y = record {
+    is = y .is ∙ rw (x .is, x .ends) (sym (sets-append vs ws l at));
+    ends = omega (arith, x .ends, y .ends, length-append vs ws);
+  }
+
+  -- one row more
+  pub row-more : (row : ℕ → List ℕ) (i : ℕ) (m n : List ℕ) (e f : ℕ) → Laid l at (rows row i) m e → Laid m e (row i) n f → Laid l at (rows row (i + 1)) n f
+  unfolding rows
+  row-more row i m n e f x y = rw add-one (both (rows row i) (row i) m n e f x y)
+
+-- one byte more of a copy
+pub byte-more : (l s m : List ℕ) (i : ℕ) → i < length s → Laid l 0 (take i s) m i → Laid l 0 (take (i + 1) s) (set m i (getD s i 0)) (i + 1)
+byte-more l s m i h x =
+    rw (add-one, take-suc s i 0 h, ← add-one) (both l 0 (take i s) (getD s i 0 ∷ []) m _ i (i + 1) x (record { is = refl; ends = refl }))
+
+-- the last byte is copied
+pub copied : (l s m : List ℕ) (i : ℕ) → length s ≤ i → Laid l 0 (take i s) m i → Laid l 0 s m i
+copied l s m i h x = rw (take-all i s h) at x
+
+-- the header and the four tables are the whole layout
+pub whole : (f : Form) (l a b c d e : List ℕ) (h i j k n x y z w : ℕ)
+    → Laid l 0 (headerBytes f) a h
+    → Laid a h (rows (λ i. classBytes (classOf f i)) x) b i → x ≡ min (f .classes) 4
+    → Laid b i (rows (λ v. nodeBytes (nodeOf f v)) y) c j → y ≡ min (f .nodes) 64
+    → Laid c j (rows (λ e. edgeBytes (edgeOf f e)) z) d k → z ≡ min (f .edges) 256
+    → Laid d k (rows (λ v. startBytes (startOf f v) (retimingOf f v)) w) e n → w ≡ min (scheduled f) 64
+    → Laid l 0 (layout f) e n
+unfolding layout classRows nodeRows edgeRows startRows
+whole f l a b c d e h i j k n x y z w header classes ex nodes ey edges ez starts ew =
+    both _ _ _ _ _ _ _ _ header
+    (both _ _ _ _ _ _ _ _ (rw ex at classes) (both _ _ _ _ _ _ _ _ (rw ey at nodes) (both _ _ _ _ _ _ _ _ (rw ez at edges) (rw ew at starts))))
+
+-- laying keeps a buffer's length
+pub same-long : (l vs m : List ℕ) (at n : ℕ) → Laid l at vs m n → length m ≡ length l
+same-long l vs m at n x = rw (x .is) (length-sets l at vs)
+
+-- ---- a form laid into a buffer, and its bytes at the front of it
+
+module _ (l m : List ℕ) (f : Form) (size : ℕ) (x : Laid l 0 (layout f) m size) (room : size ≤ length l) where
+  pub front-long : length (take size m) ≡ size
+  front-long = length-take-le size m (omega (arith, same-long l (layout f) m 0 size x))
+
+  size-is : size ≡ length (layout f)
+  size-is = x .ends ∙ zero-add _
+
+  front : take size m ≡ layout f
+  front = rw (x .is, size-is) (sets-front l (layout f) (omega (arith, size-is)))
+
+  -- what writing it answers, once the reader has read them back
+  module _ (out : List ℕ) (r : Record) (back : r ≡ readForm (take size m)) where
+    pub refused : fine (r .refusal) ≡ false → (_≡_ {A = Written} (record { refusal = r .refusal; size = 0 }) (written f (length out))) × (out ≡ bufferAfter f out)
+    unfolding written bufferAfter refusalOf pick
+    refused e = (rw (← front, ← back) (simp e), rw (← front, ← back) (simp e))
+
+    module _ (good : fine (r .refusal) ≡ true) where
+      pub cramped : length out < size → (_≡_ {A = Written} (record { refusal = Room 0; size = 0 }) (written f (length out))) × (out ≡ bufferAfter f out)
+      unfolding written bufferAfter refusalOf pick fine
+      cramped h = (rw (← size-is, ← front, ← back, good, lt-ltb _ _ h), rw (← size-is, ← front, ← back, good, lt-ltb _ _ h))
+
+      pub fits : (last : List ℕ) → size ≤ length out → last ≡ sets out 0 (take size m)
+          → (_≡_ {A = Written} (record { refusal = None; size = size }) (written f (length out))) × (last ≡ bufferAfter f out)
+      unfolding written bufferAfter refusalOf pick fine
+      fits last h e = (rw (← size-is, ← front, ← back, good, le-ltb _ _ h), rw (← size-is, ← front, ← back, good, le-ltb _ _ h) e)

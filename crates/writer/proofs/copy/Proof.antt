@@ -1,0 +1,55 @@
+use mathlib.Core.Path.{_≡_, refl}
+use Prim.Native.Nat.{ℕ, _≤_, _-_}
+use lib.ListN.{length, take}
+use borrow.Author.Needs.{needs}
+use Rattle.writer.specs.Laid.{Laid}
+use Rattle.writer.proofs.Laws.{nothing, byte-more, copied}
+use Rattle.writer.proofs.copy.Statement.{statement}
+use Rattle.writer.proofs.copy.Tie as tie
+use Rattle.writer.proofs.copy.Reads as reads
+use Rattle.writer.proofs.copy.Lts as lts
+
+abbrev Inv-loop : tie.InvT-loop
+Inv-loop out₀ bytes i₀ out i = (i ≤ length bytes) × (length out ≡ length out₀) × Laid out₀ 0 (take i bytes) out i
+
+abbrev μ-loop : tie.MeasureT-loop
+μ-loop out₀ bytes i₀ out i = length bytes - i
+
+loop-holds : tie.Need-loop-holds Inv-loop μ-loop
+loop-holds c = (search needs, search needs, nothing _ _)
+
+shared-slice-read-out : tie.Need-shared-slice-read-out Inv-loop μ-loop
+shared-slice-read-out c = search needs
+
+slice-write-out : tie.Need-slice-write-out Inv-loop μ-loop
+slice-write-out c = search needs
+
+add-i : tie.Need-add-i Inv-loop μ-loop
+add-i c = search needs
+
+loop-less : tie.Need-loop-less Inv-loop μ-loop
+loop-less c = search needs
+
+loop-again : tie.Need-loop-again Inv-loop μ-loop
+loop-again c = (search needs, search needs, byte-more _ _ _ _ (c .before .loop-test .taken) (c .before .before .loop .inv .2))
+
+same-length : tie.Need-same-length Inv-loop μ-loop
+same-length c = search needs
+
+returns : tie.Need-returns Inv-loop μ-loop
+returns c = copied _ _ _ _ (c .loop-test .left) (c .before .loop .inv .2) .is
+
+pub copy-spec : {M : Type 1} → statement M
+copy-spec =
+    tie.close
+    (tie.spec
+    Inv-loop
+    μ-loop
+    loop-holds
+    shared-slice-read-out
+    slice-write-out
+    add-i
+    loop-less
+    loop-again
+    same-length
+    returns)

@@ -1,0 +1,62 @@
+use mathlib.Core.Path.{_≡_}
+use Prim.Native.Nat.{ℕ, _≤_, _+_, _*_, _-_}
+use native.Mathlib.Omega.{arith}
+use lib.ListN.{getD}
+use Rattle.form.specs.Places.{noClass}
+use Rattle.reader.proofs.Laws.{tests}
+use Rattle.writer.specs.Layout.{classBytes, rows}
+use Rattle.writer.specs.Laid.{Laid}
+use Rattle.writer.proofs.Laws.{nothing, row-more}
+use Rattle.writer.proofs.put_classes.Statement.{statement}
+use Rattle.writer.proofs.put_classes.Tie as tie
+use Rattle.writer.proofs.put_classes.Reads as reads
+use Rattle.writer.proofs.put_classes.Lts as lts
+use Rattle.writer.proofs.put_class.Reads as put-class-reads
+
+abbrev Inv-loop : tie.InvT-loop
+Inv-loop out₀ at count class next₀ i₀ out next i = (i ≤ count) × (next ≡ at + 3 * i) × Laid out₀ at (rows (λ k. classBytes (getD class k noClass)) i) out next
+
+abbrev μ-loop : tie.MeasureT-loop
+μ-loop out₀ at count class next₀ i₀ out next i = count - i
+
+loop-holds : tie.Need-loop-holds Inv-loop μ-loop
+unfolding rows
+loop-holds c = (search tests, search tests, nothing _ _)
+
+mul-row : tie.Need-mul-row Inv-loop μ-loop
+mul-row c = search tests
+
+array-copy-out-row : tie.Need-array-copy-out-row Inv-loop μ-loop
+array-copy-out-row c = search tests
+
+put-class-requires : tie.Need-put-class-requires Inv-loop μ-loop
+put-class-requires c κs = search tests
+
+add-i : tie.Need-add-i Inv-loop μ-loop
+add-i c = search tests
+
+loop-less : tie.Need-loop-less Inv-loop μ-loop
+loop-less c = search tests
+
+loop-again : tie.Need-loop-again Inv-loop μ-loop
+loop-again c = (search tests, search tests, row-more _ _ _ _ _ _ _ _ (c .before .before .before .before .loop .inv .2) (c .put-class .ensures .1))
+
+returns : tie.Need-returns Inv-loop μ-loop
+returns c =
+    let e : c .before .loop .i ≡ c .before .before .args .count = omega arith in
+    (omega arith, rw e at (c .before .loop .inv .2))
+
+pub put-classes-spec : {M : Type 1} → statement M
+put-classes-spec =
+    tie.close
+    (tie.spec
+    Inv-loop
+    μ-loop
+    loop-holds
+    mul-row
+    array-copy-out-row
+    put-class-requires
+    add-i
+    loop-less
+    loop-again
+    returns)

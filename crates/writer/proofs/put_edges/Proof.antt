@@ -1,0 +1,65 @@
+use mathlib.Core.Path.{_≡_}
+use Prim.Native.Nat.{ℕ, _≤_, _+_, _*_, _-_}
+use native.Mathlib.Omega.{arith}
+use lib.ListN.{getD}
+use Rattle.reader.proofs.Laws.{tests}
+use Rattle.writer.specs.Layout.{edgeBytes, rows}
+use Rattle.writer.specs.Laid.{Laid}
+use Rattle.writer.proofs.Laws.{nothing, row-more}
+use Rattle.writer.proofs.put_edges.Statement.{statement}
+use Rattle.writer.proofs.put_edges.Tie as tie
+use Rattle.writer.proofs.put_edges.Reads as reads
+use Rattle.writer.proofs.put_edges.Lts as lts
+use Rattle.writer.proofs.put_edge.Reads as put-edge-reads
+
+abbrev Inv-loop : tie.InvT-loop
+Inv-loop out₀ at from to delays count next₀ i₀ out next i = (i ≤ count) × (next ≡ at + 3 * i) × Laid out₀ at (rows (λ k. edgeBytes (record { from = getD from k 0; to = getD to k 0; delays = getD delays k 0 })) i) out next
+
+abbrev μ-loop : tie.MeasureT-loop
+μ-loop out₀ at from to delays count next₀ i₀ out next i = count - i
+
+loop-holds : tie.Need-loop-holds Inv-loop μ-loop
+unfolding rows
+loop-holds c = (search tests, search tests, nothing _ _)
+
+element-copy-out-t13 : tie.Need-element-copy-out-t13 Inv-loop μ-loop
+element-copy-out-t13 c = search tests
+
+element-copy-out-t16 : tie.Need-element-copy-out-t16 Inv-loop μ-loop
+element-copy-out-t16 c = search tests
+
+element-copy-out-t19 : tie.Need-element-copy-out-t19 Inv-loop μ-loop
+element-copy-out-t19 c = search tests
+
+put-edge-requires : tie.Need-put-edge-requires Inv-loop μ-loop
+put-edge-requires c κs = search tests
+
+add-i : tie.Need-add-i Inv-loop μ-loop
+add-i c = search tests
+
+loop-less : tie.Need-loop-less Inv-loop μ-loop
+loop-less c = search tests
+
+loop-again : tie.Need-loop-again Inv-loop μ-loop
+loop-again c = (search tests, search tests, row-more _ _ _ _ _ _ _ _ (c .before .before .before .before .before .before .loop .inv .2) (c .put-edge .ensures .1))
+
+returns : tie.Need-returns Inv-loop μ-loop
+returns c =
+    let e : c .before .loop .i ≡ c .before .before .args .count = omega arith in
+    (omega arith, rw e at (c .before .loop .inv .2))
+
+pub put-edges-spec : {M : Type 1} → statement M
+put-edges-spec =
+    tie.close
+    (tie.spec
+    Inv-loop
+    μ-loop
+    loop-holds
+    element-copy-out-t13
+    element-copy-out-t16
+    element-copy-out-t19
+    put-edge-requires
+    add-i
+    loop-less
+    loop-again
+    returns)

@@ -1,0 +1,66 @@
+use mathlib.Core.Path.{_≡_}
+use Prim.Native.Nat.{ℕ, _≤_, _+_, _*_, _-_}
+use native.Mathlib.Omega.{arith}
+use lib.ListN.{getD}
+use Rattle.form.specs.Places.{noStep}
+use Rattle.reader.proofs.Laws.{tests}
+use Rattle.writer.specs.Layout.{startBytes, rows}
+use Rattle.writer.specs.Laid.{Laid}
+use Rattle.writer.proofs.Laws.{nothing, row-more}
+use Rattle.writer.proofs.put_starts.Statement.{statement}
+use Rattle.writer.proofs.put_starts.Tie as tie
+use Rattle.writer.proofs.put_starts.Reads as reads
+use Rattle.writer.proofs.put_starts.Lts as lts
+use Rattle.writer.proofs.put_start.Reads as put-start-reads
+
+abbrev Inv-loop : tie.InvT-loop
+Inv-loop out₀ at count start retiming next₀ i₀ out next i = (i ≤ count) × (next ≡ at + 3 * i) × Laid out₀ at (rows (λ k. startBytes (getD start k noStep .0) (getD retiming k 0)) i) out next
+
+abbrev μ-loop : tie.MeasureT-loop
+μ-loop out₀ at count start retiming next₀ i₀ out next i = count - i
+
+loop-holds : tie.Need-loop-holds Inv-loop μ-loop
+unfolding rows
+loop-holds c = (search tests, search tests, nothing _ _)
+
+mul-row : tie.Need-mul-row Inv-loop μ-loop
+mul-row c = search tests
+
+array-copy-out-row : tie.Need-array-copy-out-row Inv-loop μ-loop
+array-copy-out-row c = search tests
+
+array-read-put-start : tie.Need-array-read-put-start Inv-loop μ-loop
+array-read-put-start c = search tests
+
+put-start-requires : tie.Need-put-start-requires Inv-loop μ-loop
+put-start-requires c κs = search tests
+
+add-i : tie.Need-add-i Inv-loop μ-loop
+add-i c = search tests
+
+loop-less : tie.Need-loop-less Inv-loop μ-loop
+loop-less c = search tests
+
+loop-again : tie.Need-loop-again Inv-loop μ-loop
+loop-again c = (search tests, search tests, row-more _ _ _ _ _ _ _ _ (c .before .before .before .before .loop .inv .2) (c .put-start .ensures .1))
+
+returns : tie.Need-returns Inv-loop μ-loop
+returns c =
+    let e : c .before .loop .i ≡ c .before .before .args .count = omega arith in
+    (omega arith, rw e at (c .before .loop .inv .2))
+
+pub put-starts-spec : {M : Type 1} → statement M
+put-starts-spec =
+    tie.close
+    (tie.spec
+    Inv-loop
+    μ-loop
+    loop-holds
+    mul-row
+    array-copy-out-row
+    array-read-put-start
+    put-start-requires
+    add-i
+    loop-less
+    loop-again
+    returns)
