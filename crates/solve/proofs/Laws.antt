@@ -18,15 +18,15 @@ use Rattle.answer.specs.Outcome.{noCycle}
 use Rattle.solve.specs.Solved.{Solved}
 
 module _ (s : System) (t : Settled) (e : t ≡ settledOf s) where
-  pub when-settled : t .settled ≡ true → Solved s (record { settled = true; values = t .values; cycle = noCycle })
-  when-settled b = record {
+  pub when-settled : (c : Cycle) → c ≡ noCycle → t .settled ≡ true → Solved s (record { settled = true; values = t .values; cycle = c })
+  when-settled c z b = record {
     settled = sym b ∙ ap (λ (x : Settled). x .settled) e;
     values = ap (λ (x : Settled). x .values) e;
-    none = λ q. refl;
+    none = λ q. z;
     shortest = λ q. absurd (true≢false q);
     some = λ q. absurd (true≢false q);
-    few = omega arith;
-    filled = λ i h. zeros-at 64 i;
+    few = rw z (omega arith);
+    filled = λ i h. rw z (zeros-at 64 i);
   }
 
   pub when-unsettled : (c : Cycle) → t .settled ≡ false → Joined (s .graph) → 1 ≤ s .graph .nodes → s .graph .nodes ≤ 64 → FoundCycle s c

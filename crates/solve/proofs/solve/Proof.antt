@@ -12,14 +12,18 @@ use Rattle.solve.proofs.solve.Statement.{statement}
 use Rattle.solve.proofs.solve.Tie as tie
 use Rattle.solve.proofs.solve.Reads as reads
 use Rattle.solve.proofs.solve.Lts as lts
+use Rattle.answer.proofs.Cycle.none.Reads as none-reads
 use Rattle.cycle.proofs.shortest_cycle.Reads as shortest-cycle-reads
 use Rattle.system.proofs.settle.Reads as settle-reads
 
 settle-requires : tie.Need-settle-requires
 settle-requires c κs = search needs
 
+none-requires : tie.Need-none-requires
+none-requires c κs = search needs
+
 returns : tie.Need-returns
-returns c = when-settled _ _ (c .before .before .settle .ensures) (c .if1 .taken)
+returns c = when-settled _ _ (c .before .before .before .settle .ensures) _ (c .none .ensures) (c .before .if1 .taken)
 
 shortest-cycle-requires : tie.Need-shortest-cycle-requires
 shortest-cycle-requires c κs = search needs
@@ -33,4 +37,5 @@ returns-2 c =
     when-unsettled s _ (c .before .before .before .settle .ensures) _ (c .before .if1 .left) (a .pre .1) (a .pre .0 .0) (a .pre .0 .1) (c .shortest-cycle .ensures)
 
 pub solve-spec : {M : Type 1} → statement M
-solve-spec = tie.close (tie.spec settle-requires returns shortest-cycle-requires returns-2)
+solve-spec =
+    tie.close (tie.spec settle-requires none-requires returns shortest-cycle-requires returns-2)
