@@ -16,7 +16,11 @@ use Rattle.lists.specs.Pick.{pick}
 use Rattle.lists.specs.Span.{span}
 use Rattle.lists.specs.Fold.{count, count-snoc}
 use Rattle.form.specs.declared.Form.{Form}
-use Rattle.form.specs.Places.{nodeOf, startOf}
+use Rattle.form.specs.Places.{nodeOf, latencyOf, startOf, retimingOf}
+use Rattle.form.specs.Ranges.{WellFormed}
+use Rattle.legal.specs.Loop.{graphOf, loopOf, pairOf}
+use Rattle.legal.specs.Legal.{EdgeRule}
+use Rattle.legal.specs.Judging.{breaks}
 use Rattle.rules.specs.Flat.{Flat, occupiesAt, busyIn}
 
 -- a definition's tests, settled from what a branch showed
@@ -28,6 +32,46 @@ product a b h k =
     let ha : a ≤ 65535 = omega arith in
     let hb : b ≤ 65535 = omega arith in
     mul-le-mul ha hb
+
+-- ---- the edge rule
+
+abbrev pub tailOf : Form → ℕ → ℕ
+tailOf f e = getD (f .from) e 0
+
+abbrev pub headOf : Form → ℕ → ℕ
+headOf f e = getD (f .to) e 0
+
+-- an edge's nodes and the class of its tail are places of the form
+pub record Ends (f : Form) (e : ℕ) : Type 0 where
+  pub tail-in : tailOf f e < 64
+  pub head-in : headOf f e < 64
+  pub class-in : nodeOf f (tailOf f e) .class < 4
+
+pub ends-in : (f : Form) → WellFormed f → (e : ℕ) → e < f .edges → Ends f e
+ends-in f w e h =
+    let g = w .edge e h in
+    record { tail-in = omega arith; head-in = omega arith; class-in = omega (arith, w .node (tailOf f e) (g .from)) }
+
+-- the code's delays, retimings of tail and head, and the two steps that they give
+module _ (f : Form) (e d r s begins ends : ℕ) (is-d : d ≡ getD (f .delays) e 0) (is-r : r ≡ retimingOf f (tailOf f e)) (is-s : s ≡ retimingOf f (headOf f e))
+    (is-begins : begins ≡ startOf f (headOf f e) + f .length * (d + r)) (is-ends : ends ≡ startOf f (tailOf f e) + f .length * s) where
+  begins-at : begins ≡ startOf f (headOf f e) + f .length * (getD (f .delays) e 0 + retimingOf f (tailOf f e))
+  begins-at = is-begins ∙ rw (is-d, is-r)
+
+  ends-at : ends ≡ startOf f (tailOf f e) + f .length * retimingOf f (headOf f e)
+  ends-at = is-ends ∙ rw is-s
+
+  pub edge-breaks : begins < ends + latencyOf f (tailOf f e) → breaks (loopOf f) (pairOf f) e ≡ true
+  unfolding breaks loopOf pairOf graphOf
+  edge-breaks h =
+      let broken : startOf f (headOf f e) + f .length * (getD (f .delays) e 0 + retimingOf f (tailOf f e)) < startOf f (tailOf f e) + latencyOf f (tailOf f e) + f .length * retimingOf f (headOf f e) = omega (arith, begins-at, ends-at) in
+      lt-ltb _ _ broken
+
+  pub edge-keeps : ends + latencyOf f (tailOf f e) ≤ begins → breaks (loopOf f) (pairOf f) e ≡ false
+  unfolding breaks loopOf pairOf graphOf
+  edge-keeps h =
+      let kept : EdgeRule (loopOf f) (pairOf f) e = omega (arith, begins-at, ends-at) in
+      le-ltb _ _ kept
 
 -- ---- the tables
 
