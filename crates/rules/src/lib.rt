@@ -11,9 +11,9 @@ use form::Class;
 use form::Form;
 
 // The class and the start of each node, in tables that loops can borrow.
-pub struct Timetable {
-    pub kind: [u8; 64],
-    pub start: [u16; 64],
+struct Timetable {
+    kind: [u8; 64],
+    start: [u16; 64],
 }
 
 // A byte as a u16; the bound spares each use a proof.

@@ -11,10 +11,6 @@ use Rattle.legal.specs.Judging.{breaks, brokenEdge}
 use Rattle.rules.proofs.Laws.{Ends, ends-in, edge-breaks, edge-keeps}
 use Rattle.rules.proofs.broken_edge.Statement.{statement}
 use Rattle.rules.proofs.broken_edge.Tie as tie
-use Rattle.rules.proofs.broken_edge.Reads as reads
-use Rattle.rules.proofs.broken_edge.Lts as lts
-use Rattle.rules.proofs.later.Reads as later-reads
-use Rattle.rules.proofs.wide.Reads as wide-reads
 
 abbrev Inv-loop : tie.InvT-loop
 Inv-loop form length e₀ e = (e ≤ form .edges) × (firstFrom (breaks (loopOf form) (pairOf form)) (form .edges - e) e ≡ brokenEdge (loopOf form) (pairOf form))

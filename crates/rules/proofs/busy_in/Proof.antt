@@ -10,8 +10,6 @@ use Rattle.rules.specs.Flat.{busyIn}
 use Rattle.rules.proofs.Laws.{busy-none, busy-more}
 use Rattle.rules.proofs.busy_in.Statement.{statement}
 use Rattle.rules.proofs.busy_in.Tie as tie
-use Rattle.rules.proofs.busy_in.Reads as reads
-use Rattle.rules.proofs.busy_in.Lts as lts
 
 abbrev Inv-loop : tie.InvT-loop
 Inv-loop nodes kind start class hold step busy₀ v₀ busy v = (v ≤ nodes) × (busy ≤ v) × (busy ≡ busyIn kind start class hold step v)

@@ -9,8 +9,6 @@ use Rattle.rules.specs.Flat.{Flat}
 use Rattle.rules.proofs.Laws.{flat-none, flat-more, flat-all}
 use Rattle.rules.proofs.flatten.Statement.{statement}
 use Rattle.rules.proofs.flatten.Tie as tie
-use Rattle.rules.proofs.flatten.Reads as reads
-use Rattle.rules.proofs.flatten.Lts as lts
 
 abbrev Inv-loop : tie.InvT-loop
 Inv-loop form kind₀ start₀ nodes v₀ kind start v = (v ≤ nodes) × (length kind ≡ 64) × (length start ≡ 64) × Flat form v kind start
