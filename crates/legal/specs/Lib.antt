@@ -2,6 +2,7 @@ pub mod Loop
 pub mod Legal
 pub mod Systems
 pub mod Judging
+pub mod Handed
 pub mod Shape
 pub mod Limits
 pub mod Splits

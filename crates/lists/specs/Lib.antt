@@ -4,3 +4,4 @@ pub mod Fold
 pub mod First
 pub mod Pigeon
 pub mod Place
+pub mod Count

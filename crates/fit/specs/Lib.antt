@@ -1,0 +1,2 @@
+pub mod Retimed
+pub mod Fitting

@@ -1,0 +1,48 @@
+-- The retiming that fits the starts of a form, node by node, and the form with it.
+-- Assumes nothing.
+use mathlib.Core.Path.{_≡_}
+use mathlib.Core.Bool.{true, false}
+use mathlib.Core.List.{List, _++_, map}
+use Prim.Native.Nat.{ℕ, _-_}
+use lib.ListN.{replicate}
+use Rattle.lists.specs.Pick.{pick}
+use Rattle.lists.specs.Span.{span}
+use Rattle.answer.specs.Outcome.{noCycle, edgesOf, Filled}
+use Rattle.system.specs.Rounds.{settledOf}
+use Rattle.form.specs.declared.Form.{Form}
+use Rattle.legal.specs.Loop.{Loop, Pair, loopOf, pairOf}
+use Rattle.legal.specs.Systems.{limits, Impossible}
+use Rattle.legal.specs.Fitted.{fitted}
+use Rattle.fit.specs.declared.Fitting.{Fitting}
+
+-- of least depth, and node by node the largest of those; unused places are 0
+unfoldable pub retimings : Loop → Pair → List ℕ
+retimings g p = map (fitted g p) (span 0 (g .graph .nodes)) ++ replicate (64 - g .graph .nodes) 0
+
+-- the form with another retiming
+unfoldable pub withRetiming : Form → List ℕ → Form
+withRetiming f rs = record {
+  classes = f .classes;
+  nodes = f .nodes;
+  edges = f .edges;
+  length = f .length;
+  class = f .class;
+  node = f .node;
+  from = f .from;
+  to = f .to;
+  delays = f .delays;
+  start = f .start;
+  retiming = rs;
+}
+
+unfoldable pub fittedForm : Form → Form
+fittedForm f = withRetiming f (retimings (loopOf f) (pairOf f))
+
+-- the starts of a form fitted, or a cycle that proves that nothing fits
+pub record StartsFitted (g : Loop) (p : Pair) (r : Fitting) : Type 0 where
+  pub fits : r .fits ≡ settledOf (limits g p) .settled
+  pub retiming : r .fits ≡ true → r .retiming ≡ retimings g p
+  pub none : r .fits ≡ true → r .cycle ≡ noCycle
+  pub zeros : r .fits ≡ false → r .retiming ≡ replicate 64 0
+  pub impossible : r .fits ≡ false → Impossible g p (edgesOf (r .cycle))
+  pub filled : Filled (r .cycle)

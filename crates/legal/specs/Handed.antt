@@ -1,0 +1,17 @@
+-- The cycle that is handed over beside a refusal: a knot with Knot, a cycle with negative limit sum with NoRetiming, else none.
+-- Assumes nothing.
+use mathlib.Core.Path.{_≡_}
+use mathlib.Core.Logic.{_≢_}
+use Rattle.answer.specs.Outcome.{noCycle, edgesOf, Filled}
+use Rattle.answer.specs.declared.Cycle.{Cycle}
+use Rattle.answer.specs.declared.Refusal.{Refusal}
+use Rattle.answer.specs.declared.Refusal.the-variants as refusal
+use Rattle.legal.specs.Loop.{Loop, Pair}
+use Rattle.legal.specs.Legal.{Knot}
+use Rattle.legal.specs.Systems.{Impossible}
+
+pub record Handed (g : Loop) (p : Pair) (r : Refusal) (c : Cycle) : Type 0 where
+  pub knot : r ≡ refusal.Knot → Knot g (edgesOf c)
+  pub impossible : r ≡ refusal.NoRetiming → Impossible g p (edgesOf c)
+  pub none : r ≢ refusal.Knot → r ≢ refusal.NoRetiming → c ≡ noCycle
+  pub filled : Filled c
