@@ -1,0 +1,102 @@
+// Asks the linked functions what standard input holds, request after request, and prints each answer.
+// A request is 10 bytes: what to ask, an unused byte, two numbers, the room lent and the record's length,
+// 16 bits each, the lowest byte first; then the record. The buffer lent is filled with 238, so that a byte
+// written where none should be is seen.
+ghost use mathlib.Core.Path.{_≡_};
+ghost use lib.ListN.{length};
+use libc::STDOUT_FILENO;
+
+fn two(low: u8, high: u8) -> u16 {
+    low as u16 + 256 * high as u16
+}
+
+fn print_number(number: u32) {
+    io::print_decimal(STDOUT_FILENO, number as u64);
+    io::write_all(STDOUT_FILENO, b" ");
+}
+
+// The number, the details, the count, and the cycle's edges.
+fn print_answer(answer: &[u32; 69]) {
+    let count = answer[4];
+    let mut i: usize = 0;
+    while i < 69 {
+        if i < 5 {
+            print_number(answer[i]);
+        } else if i as u32 - 5 < count {
+            print_number(answer[i]);
+        }
+        i += 1;
+    }
+}
+
+fn print_byte(byte: u8) {
+    io::print_hex(STDOUT_FILENO, byte as u64, 2);
+}
+
+fn print_bytes(bytes: &[u8]) {
+    let mut i: usize = 0;
+    while i < bytes.len() {
+        print_byte(bytes[i]);
+        i += 1;
+    }
+}
+
+fn ask(what: u8, record: &[u8], out: &mut [u8], answer: &mut [u32; 69]) {
+    match what {
+        0 => {
+            rsk_c::rsk_rewrite(record, out, answer);
+        }
+        _ => {}
+    }
+}
+
+// The answer and the buffer after it.
+fn tell(what: u8, record: &[u8], out: &mut [u8]) {
+    let mut answer = [0u32; 69];
+    ask(what, record, out, &mut answer);
+    print_answer(&answer);
+    print_bytes(out);
+    io::write_all(STDOUT_FILENO, b"\n");
+}
+
+fn empty() -> [u8; 2048]
+    ensures { λ r. ⌜ length r ≡ 2048 ⌝ }
+{
+    [0; 2048]
+}
+
+fn marked() -> [u8; 8192]
+    ensures { λ r. ⌜ length r ≡ 8192 ⌝ }
+{
+    [238; 8192]
+}
+
+// One request; whether there was one.
+fn one() -> bool {
+    let mut head = [0u8; 10];
+    let got = io::read_full(0, &mut head);
+    let room = two(head[6], head[7]) as usize;
+    let length = two(head[8], head[9]) as usize;
+    if got < 10 {
+        return false;
+    }
+    if 8192 < room {
+        return false;
+    }
+    if 2048 < length {
+        return false;
+    }
+    let mut bytes = empty();
+    io::read_full(0, &mut bytes[..length]);
+    let mut out = marked();
+    tell(head[0], &bytes[..length], &mut out[..room]);
+    true
+}
+
+// A proved loop has to end, and nothing says that the input does.
+fn main() {
+    let mut turns = u64::MAX;
+    while turns > 0 && one() {
+        turns -= 1;
+    }
+}
