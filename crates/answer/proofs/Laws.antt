@@ -1,12 +1,12 @@
 -- Runs of stores into a list, one after the other, and those of a cycle's edges.
 -- Assumes nothing.
-use mathlib.Core.Path.{_≡_, refl, ap, sym, _∙_}
+use mathlib.Core.Path.{_≡_, ap, sym, _∙_}
 use mathlib.Core.List.{List, [], _∷_, _++_, map}
 use Prim.Native.Nat.{ℕ, zero, suc, _+_, _≤_}
 use native.Mathlib.Nat.{add-zero, add-suc, suc-add, zero-add}
 use native.Mathlib.Numerals.{add-one}
 use native.Mathlib.Omega.{arith}
-use lib.ListN.{length, take, length-map, length-append}
+use lib.ListN.{length, take, length-map}
 use lib.Seq.{sets, sets-eq, length-sets, take-append-seam, take-all}
 use Rattle.lists.specs.Span.{span, span-length}
 use Rattle.answer.specs.declared.Cycle.{Cycle}
@@ -41,10 +41,14 @@ cycle-length : (c : Cycle) → length (cycleList c) ≡ 64
 unfolding cycleList
 cycle-length c = length-map (span 0 64) (cycleEdge c) ∙ span-length 0 64
 
+-- an answer has 69 places
+pub answer-long : (r : Refusal) (numbers : Details) (c : Cycle) → length (answerList r numbers c) ≡ 69
+unfolding answerList outcomeList
+answer-long r numbers c = omega (arith, cycle-length c)
+
 -- the first five places, then the cycle's, are the whole answer
 pub answer-whole : (l first last : List ℕ) (r : Refusal) (numbers : Details) (c : Cycle) → length l ≡ 69
     → first ≡ sets l 0 (outcomeList r (toldOf r numbers) (c .count)) → last ≡ sets first 5 (cycleList c) → last ≡ answerList r numbers c
 unfolding answerList outcomeList
 answer-whole l first last r numbers c h ef el =
-    let front = outcomeList r (toldOf r numbers) (c .count) in
-    rw (el, ef) (sym (sets-append front (cycleList c) l 0) ∙ sets-whole l (front ++ cycleList c) (omega (arith, length-append front (cycleList c), cycle-length c)))
+    rw (el, ef) (sym (sets-append (outcomeList r (toldOf r numbers) (c .count)) (cycleList c) l 0) ∙ sets-whole l (answerList r numbers c) (answer-long r numbers c ∙ sym h))

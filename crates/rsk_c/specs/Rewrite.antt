@@ -2,7 +2,6 @@
 -- Assumes nothing.
 use mathlib.Core.List.{List}
 use Prim.Native.Nat.{ℕ}
-use lib.ListN.{length}
 use Rattle.lists.specs.Pick.{pick}
 use Rattle.answer.specs.Refused.{fine, details}
 use Rattle.answer.specs.Outcome.{noCycle, answerList}

@@ -1,7 +1,6 @@
 // A held form into a record's bytes: laid out in a buffer, read back, and copied out where the reader takes them.
 ghost use mathlib.Core.Path.{_≡_};
-ghost use mathlib.Core.List.{_++_};
-ghost use Prim.Native.Nat.{_+_, _*_, _≤_, _<_, min};
+ghost use Prim.Native.Nat.{_+_, _*_, _≤_, min};
 ghost use lib.ListN.{length, getD};
 ghost use lib.Seq.{sets};
 ghost use Rattle.form.specs.Places.{noClass, noNode, noStep, scheduledOf};

@@ -1,6 +1,6 @@
 use mathlib.Core.Path.{_≡_, refl}
 use mathlib.Core.List.{map}
-use Prim.Native.Nat.{ℕ, _≤_, _-_}
+use Prim.Native.Nat.{_≤_, _-_}
 use lib.Seq.{sets}
 use native.Mathlib.Omega.{arith}
 use borrow.Author.Needs.{needs}

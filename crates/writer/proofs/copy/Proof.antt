@@ -1,5 +1,5 @@
-use mathlib.Core.Path.{_≡_, refl}
-use Prim.Native.Nat.{ℕ, _≤_, _-_}
+use mathlib.Core.Path.{_≡_}
+use Prim.Native.Nat.{_≤_, _-_}
 use lib.ListN.{length, take}
 use borrow.Author.Needs.{needs}
 use Rattle.writer.specs.Laid.{Laid}
