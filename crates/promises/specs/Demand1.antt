@@ -1,0 +1,78 @@
+-- Demand 1. Every entry point ends with an answer or with the refusal that comes first, and a refusal alters no buffer.
+-- Each contract leaves one possibility: two answers that meet it on the same input, with the buffers they leave, are equal.
+-- Assumes nothing.
+use mathlib.Core.Path.{_≡_, sym, _∙_}
+use mathlib.Core.Bool.{true, false}
+use mathlib.Core.List.{List}
+use Prim.Native.Nat.{ℕ}
+use lib.ListN.{length}
+use Rattle.lists.specs.Pick.{pick, pick-false}
+use Rattle.answer.specs.Refused.{numberOf, fine}
+use Rattle.form.specs.declared.Form.{Form}
+use Rattle.form.specs.declared.Added.{Added}
+use Rattle.form.specs.declared.Class.{Class}
+use Rattle.form.specs.declared.Node.{Node}
+use Rattle.form.specs.declared.Edge.{Edge}
+use Rattle.form.specs.Adding.{classAdded, nodeAdded, edgeAdded}
+use Rattle.reader.specs.declared.Record.{Record}
+use Rattle.reader.specs.Reading.{readForm}
+use Rattle.writer.specs.declared.Written.{Written}
+use Rattle.writer.specs.Writing.{refusalOf, written, bufferAfter}
+use Rattle.rsk_c.specs.Rewrite.{rewritten, rewrittenOut, rewrittenAnswer}
+
+-- what a definition gives is one thing
+pub settled {ℓ} : {A : Type ℓ} {x : A} (a b : A) → a ≡ x → b ≡ x → a ≡ b
+settled a b p q = p ∙ sym q
+
+-- adding a class, a node, an edge
+pub add-class-settled : (f : Form) (k : Class) (a b : Added) → a ≡ classAdded f k → b ≡ classAdded f k → a ≡ b
+add-class-settled f k = settled
+
+pub add-node-settled : (f : Form) (k : Node) (a b : Added) → a ≡ nodeAdded f k → b ≡ nodeAdded f k → a ≡ b
+add-node-settled f k = settled
+
+pub add-edge-settled : (f : Form) (k : Edge) (a b : Added) → a ≡ edgeAdded f k → b ≡ edgeAdded f k → a ≡ b
+add-edge-settled f k = settled
+
+-- reading
+pub read-settled : (s : List ℕ) (a b : Record) → a ≡ readForm s → b ≡ readForm s → a ≡ b
+read-settled s = settled
+
+-- what writing answers, and the buffer it leaves
+pub record Wrote (f : Form) (out : List ℕ) (r : Written) (after : List ℕ) : Type 0 where
+  pub answer : r ≡ written f (length out)
+  pub buffer : after ≡ bufferAfter f out
+
+pub write-settled : (f : Form) (out : List ℕ) (a b : Written) (after again : List ℕ) → Wrote f out a after → Wrote f out b again
+    → (a ≡ b) × (after ≡ again)
+write-settled f out a b after again p q = (settled a b (p .answer) (q .answer), settled after again (p .buffer) (q .buffer))
+
+-- a form that is refused leaves the buffer as it was
+pub write-refused : (f : Form) (out : List ℕ) → fine (refusalOf f (length out)) ≡ false → bufferAfter f out ≡ out
+unfolding bufferAfter
+write-refused f out e = pick-false (fine (refusalOf f (length out))) _ out e
+
+-- what rsk_rewrite answers, the buffer and the answer's places
+pub record Rewrote (s out : List ℕ) (r : ℕ) (after places : List ℕ) : Type 0 where
+  pub number : r ≡ numberOf (rewritten s (length out) .refusal)
+  pub buffer : after ≡ rewrittenOut s out
+  pub answer : places ≡ rewrittenAnswer s (length out)
+
+pub rewrite-settled : (s out : List ℕ) (a b : ℕ) (after again places others : List ℕ) → Rewrote s out a after places → Rewrote s out b again others
+    → (a ≡ b) × (after ≡ again) × (places ≡ others)
+rewrite-settled s out a b after again places others p q = (
+  settled a b (p .number) (q .number),
+  settled after again (p .buffer) (q .buffer),
+  settled places others (p .answer) (q .answer),
+)
+
+-- a record that rsk_rewrite refuses leaves the buffer as it was
+pub rewrite-refused : (s out : List ℕ) → fine (rewritten s (length out) .refusal) ≡ false → rewrittenOut s out ≡ out
+unfolding rewritten rewrittenOut written pick
+rewrite-refused s out e = go (fine (readForm s .refusal)) e
+  where
+    go : (b : mathlib.Core.Bool.Bool)
+        → fine (pick b (written (readForm s .form) (length out)) (record { refusal = readForm s .refusal; size = 0 }) .refusal) ≡ false
+        → pick b (bufferAfter (readForm s .form) out) out ≡ out
+    go true e = write-refused (readForm s .form) out e
+    go false e = mathlib.Core.Path.refl
