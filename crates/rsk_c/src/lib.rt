@@ -3,6 +3,7 @@ ghost use mathlib.Core.Path.{_≡_};
 ghost use lib.ListN.{length};
 ghost use Rattle.answer.specs.Refused.{numberOf};
 ghost use Rattle.rsk_c.specs.Rewrite.{rewritten, rewrittenOut, rewrittenAnswer};
+ghost use Rattle.rsk_c.specs.Judge.{JudgeAnswered};
 use answer::Cycle;
 
 // The record read and written again; its size.
@@ -26,4 +27,15 @@ pub extern "C" fn rsk_rewrite(record: &[u8], out: &mut [u8], answer: &mut [u32; 
         answer::numbers_of(written.size, 0, 0),
         Cycle::none(),
     )
+}
+
+// The record judged; no numbers.
+#[no_mangle]
+pub extern "C" fn rsk_judge(record: &[u8], answer: &mut [u32; 69]) -> u32
+    ensures { λ r. ⌜ JudgeAnswered (now («record» .entry)) r (now (answer .exit)) ⌝ }
+{
+    let judged = judge::judge(record);
+    let refusal = judged.refusal;
+    let cycle = judged.cycle;
+    answer::fill(answer, refusal, answer::numbers_of(0, 0, 0), cycle)
 }
