@@ -1,10 +1,10 @@
 -- What the proofs of the rules share: tests, a product's bound, a count that grows by one node.
 -- Assumes nothing.
-use mathlib.Core.Path.{_≡_, refl, _∙_}
+use mathlib.Core.Path.{_≡_, refl, sym, _∙_}
 use mathlib.Core.Bool.{Bool, true, false}
 use mathlib.Core.List.{List}
-use Prim.Native.Nat.{ℕ, _+_, _*_, _≤_, _<_}
-use native.Mathlib.Nat.{mul-le-mul, zero-add, ne-of-lt, not-suc-le-zero}
+use Prim.Native.Nat.{ℕ, _+_, _-_, _*_, _≤_, _<_}
+use native.Mathlib.Nat.{mul-le-mul, sub-zero, zero-add, ne-of-lt, not-suc-le-zero}
 use native.Mathlib.Numerals.{add-one}
 use native.Mathlib.Omega.{arith}
 use lib.ListN.{length, getD, set}
@@ -14,6 +14,7 @@ use borrow.Author.Needs.{needs}
 use borrow.Author.Tests.{le-ltb, lt-ltb, le-leb, lt-leb, eq-eqb, ne-eqb}
 use Rattle.lists.specs.Pick.{pick}
 use Rattle.lists.specs.Span.{span}
+use Rattle.lists.specs.First.{firstFrom, first-here, first-next}
 use Rattle.lists.specs.Fold.{count, count-snoc}
 use Rattle.form.specs.declared.Form.{Form}
 use Rattle.form.specs.Places.{nodeOf, latencyOf, startOf, retimingOf}
@@ -35,6 +36,28 @@ product a b h k =
 
 -- ---- the edge rule
 
+pub left-none : (test : ℕ → Bool) (n left whole : ℕ) → left ≤ 0 → firstFrom test left (n - left) ≡ whole → n ≡ whole
+unfolding firstFrom
+left-none test n left whole none rest =
+    let zero-left : left ≡ 0 = omega arith in
+    sym (sub-zero n) ∙ rw zero-left at rest
+
+-- a search of n numbers of which so many are left
+module _ (test : ℕ → Bool) (n left whole : ℕ) (some : 0 < left) (within : left ≤ n) (rest : firstFrom test left (n - left) ≡ whole) where
+  whole-rest : firstFrom test (n - (n - left)) (n - left) ≡ whole
+  whole-rest =
+      let back : n - (n - left) ≡ left = omega arith in
+      rw back rest
+
+  pub left-here : test (n - left) ≡ true → n - left ≡ whole
+  left-here passes = first-here test n (n - left) whole (omega arith) passes whole-rest
+
+  pub left-next : test (n - left) ≡ false → firstFrom test (left - 1) (n - (left - 1)) ≡ whole
+  left-next fails =
+      let less : left - 1 ≡ n - (n - left + 1) = omega arith in
+      let next : n - (left - 1) ≡ n - left + 1 = omega arith in
+      rw (next, less) (first-next test n (n - left) whole (omega arith) fails whole-rest)
+
 abbrev pub tailOf : Form → ℕ → ℕ
 tailOf f e = getD (f .from) e 0
 
@@ -42,15 +65,19 @@ abbrev pub headOf : Form → ℕ → ℕ
 headOf f e = getD (f .to) e 0
 
 -- an edge's nodes and the class of its tail are places of the form
-pub record Ends (f : Form) (e : ℕ) : Type 0 where
+module _ (f : Form) (e : ℕ) (w : WellFormed f) (h : e < f .edges) where
   pub tail-in : tailOf f e < 64
-  pub head-in : headOf f e < 64
-  pub class-in : nodeOf f (tailOf f e) .class < 4
+  tail-in =
+      let g = w .edge e h in
+      omega arith
 
-pub ends-in : (f : Form) → WellFormed f → (e : ℕ) → e < f .edges → Ends f e
-ends-in f w e h =
-    let g = w .edge e h in
-    record { tail-in = omega arith; head-in = omega arith; class-in = omega (arith, w .node (tailOf f e) (g .from)) }
+  pub head-in : headOf f e < 64
+  head-in =
+      let g = w .edge e h in
+      omega arith
+
+  pub class-in : nodeOf f (tailOf f e) .class < 4
+  class-in = omega (arith, w .node (tailOf f e) (w .edge e h .from))
 
 -- the code's delays, retimings of tail and head, and the two steps that they give
 module _ (f : Form) (e d r s begins ends : ℕ) (is-d : d ≡ getD (f .delays) e 0) (is-r : r ≡ retimingOf f (tailOf f e)) (is-s : s ≡ retimingOf f (headOf f e))
