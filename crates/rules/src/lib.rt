@@ -44,13 +44,13 @@ pub fn broken_edge(form: Form) -> u16
         let head = form.to[i] as usize;
         let class = form.class[form.node[tail].class as usize];
         let delays = wide(form.delays[i]);
-        let begins = later(
+        let head_begins = later(
             form.start[head].0,
             length,
             delays + wide(form.retiming[tail]),
         );
-        let ends = later(form.start[tail].0, length, wide(form.retiming[head]));
-        if begins < ends + class.latency as u32 {
+        let tail_begins = later(form.start[tail].0, length, wide(form.retiming[head]));
+        if head_begins < tail_begins + class.latency as u32 {
             return e;
         }
         left -= 1;

@@ -4,13 +4,11 @@ use mathlib.Core.Path.{_≡_}
 use Prim.Native.Nat.{_≤_, _-_}
 use native.Mathlib.Omega.{arith}
 use native.Mathlib.Nat.{sub-self}
-use mir.Syntax.{w64}
-use lib.Dec.{lit<}
-use borrow.Author.Needs.{needs, scaled-fits, fits-under}
+use borrow.Author.Needs.{needs}
 use Rattle.lists.specs.First.{firstFrom}
 use Rattle.legal.specs.Loop.{graphOf, loopOf, pairOf}
 use Rattle.legal.specs.Judging.{breaks, brokenEdge}
-use Rattle.rules.proofs.Laws.{tail-in, head-in, class-in, edge-breaks, edge-keeps, left-here, left-next, left-none}
+use Rattle.rules.proofs.Laws.{Ends, ends-in, Sides, sides-are, edge-breaks, edge-keeps, left-here, left-next, left-none}
 use Rattle.rules.proofs.broken_edge.Statement.{statement}
 use Rattle.rules.proofs.broken_edge.Tie as tie
 
@@ -23,6 +21,35 @@ abbrev μ-loop : tie.MeasureT-loop
 loop-holds : tie.Need-loop-holds Inv-loop μ-loop
 unfolding brokenEdge loopOf graphOf
 loop-holds c = (search needs, rw sub-self)
+
+-- what the code compares of an edge
+sides : (c : tie.After-struct-known Inv-loop μ-loop)
+    → Sides (c .before .before .before .before .before .before .before .before .before .before .before .before .before .before .args .t1)
+    (c .before .before .before .before .before .before .before .before .before .before .before .before .before .before .args .t1 .edges - c .before .before .before .before .before .before .before .before .before .before .before .before .before .loop .left)
+    (c .before .before .before .before .later .result)
+    (c .before .later2 .result)
+sides c =
+    let l = c .before .before .before .before in
+    let w = l .before .before .before in
+    sides-are _ _ _ _ _ _ _ (w .wide .ensures .0) (l .before .wide2 .ensures .0) (c .before .before .wide3 .ensures .0) (l .later .ensures .0) (c .before .later2 .ensures .0)
+
+returns : tie.Need-returns Inv-loop μ-loop
+returns c =
+    let t = c .before .before .before .before .before .before .before .before .before .before .before .before .before in
+    left-here _ _ _ _ (t .loop-test .taken) (t .before .loop .inv .0) (t .before .loop .inv .1) (edge-breaks _ _ _ _ (sides (c .before)) (c .if1 .taken))
+
+loop-again : tie.Need-loop-again Inv-loop μ-loop
+loop-again c =
+    let t = c .before .before .before .before .before .before .before .before .before .before .before .before .before in
+    (search needs, left-next _ _ _ _ (t .loop-test .taken) (t .before .loop .inv .0) (t .before .loop .inv .1) (edge-keeps _ _ _ _ (sides (c .before)) (c .if1 .left)))
+
+returns-2 : tie.Need-returns-2 Inv-loop μ-loop
+returns-2 c = left-none _ _ _ _ (c .loop-test .left) (c .before .loop .inv .1)
+
+-- ---- its places and numbers
+
+ends : (c : tie.In-loop Inv-loop μ-loop) → Ends (c .before .before .args .t1) (c .before .before .args .t1 .edges - c .before .loop .left)
+ends c = ends-in _ (c .before .before .pre) _ (omega arith)
 
 sub-e : tie.Need-sub-e Inv-loop μ-loop
 sub-e c = search needs
@@ -43,19 +70,19 @@ cast-head : tie.Need-cast-head Inv-loop μ-loop
 cast-head c = search needs
 
 mul-class : tie.Need-mul-class Inv-loop μ-loop
-mul-class c = scaled-fits _ 64 12 (tail-in _ _ (c .before .before .before .before .pre) (omega arith)) (lit< tt)
+mul-class c = omega (arith, ends (c .before .before))
 
 element-copy-out-class : tie.Need-element-copy-out-class Inv-loop μ-loop
-element-copy-out-class c = tail-in _ _ (c .before .before .before .before .pre) (omega arith)
+element-copy-out-class c = omega (arith, ends (c .before .before))
 
 cast-class : tie.Need-cast-class Inv-loop μ-loop
-cast-class c = fits-under w64 _ 4 (class-in _ _ (c .before .before .before .before .pre) (omega arith)) tt
+cast-class c = omega (arith, ends (c .before .before))
 
 mul-class-2 : tie.Need-mul-class-2 Inv-loop μ-loop
-mul-class-2 c = scaled-fits _ 4 3 (class-in _ _ (c .before .before .before .before .pre) (omega arith)) (lit< tt)
+mul-class-2 c = omega (arith, ends (c .before .before))
 
 element-copy-out-class-2 : tie.Need-element-copy-out-class-2 Inv-loop μ-loop
-element-copy-out-class-2 c = class-in _ _ (c .before .before .before .before .pre) (omega arith)
+element-copy-out-class-2 c = omega (arith, ends (c .before .before))
 
 element-copy-out-wide : tie.Need-element-copy-out-wide Inv-loop μ-loop
 element-copy-out-wide c = search needs
@@ -64,13 +91,13 @@ wide-requires : tie.Need-wide-requires Inv-loop μ-loop
 wide-requires c κs = search needs
 
 mul-later : tie.Need-mul-later Inv-loop μ-loop
-mul-later c = scaled-fits _ 64 2 (head-in _ _ (c .before .before .before .before .before .before .before .pre) (omega arith)) (lit< tt)
+mul-later c = omega (arith, ends (c .before .before .before .before .before))
 
 element-copy-out-later : tie.Need-element-copy-out-later Inv-loop μ-loop
-element-copy-out-later c = head-in _ _ (c .before .before .before .before .before .before .before .pre) (omega arith)
+element-copy-out-later c = omega (arith, ends (c .before .before .before .before .before))
 
 element-copy-out-wide-2 : tie.Need-element-copy-out-wide-2 Inv-loop μ-loop
-element-copy-out-wide-2 c = tail-in _ _ (c .before .before .before .before .before .before .before .pre) (omega arith)
+element-copy-out-wide-2 c = omega (arith, ends (c .before .before .before .before .before))
 
 wide-requires-2 : tie.Need-wide-requires-2 Inv-loop μ-loop
 wide-requires-2 c κs = search needs
@@ -82,13 +109,13 @@ later-requires : tie.Need-later-requires Inv-loop μ-loop
 later-requires c κs = search needs
 
 mul-later-2 : tie.Need-mul-later-2 Inv-loop μ-loop
-mul-later-2 c = scaled-fits _ 64 2 (tail-in _ _ (c .before .before .before .before .before .before .before .before .before .before .pre) (omega arith)) (lit< tt)
+mul-later-2 c = omega (arith, ends (c .before .before .before .before .before .before .before .before))
 
 element-copy-out-later-2 : tie.Need-element-copy-out-later-2 Inv-loop μ-loop
-element-copy-out-later-2 c = tail-in _ _ (c .before .before .before .before .before .before .before .before .before .before .pre) (omega arith)
+element-copy-out-later-2 c = omega (arith, ends (c .before .before .before .before .before .before .before .before))
 
 element-copy-out-wide-3 : tie.Need-element-copy-out-wide-3 Inv-loop μ-loop
-element-copy-out-wide-3 c = head-in _ _ (c .before .before .before .before .before .before .before .before .before .before .pre) (omega arith)
+element-copy-out-wide-3 c = omega (arith, ends (c .before .before .before .before .before .before .before .before))
 
 wide-requires-3 : tie.Need-wide-requires-3 Inv-loop μ-loop
 wide-requires-3 c κs = search needs
@@ -102,42 +129,11 @@ cast-if1 c = search needs
 add-if1 : tie.Need-add-if1 Inv-loop μ-loop
 add-if1 c = search needs
 
-returns : tie.Need-returns Inv-loop μ-loop
-returns c =
-    let t = c .before .before .before .before .before .before .before .before .before .before .before .before .before in
-    left-here _ _ _ _ (t .loop-test .taken) (t .before .loop .inv .0) (t .before .loop .inv .1) (
-    edge-breaks _ _ _ _ _ _ _
-    (c .before .before .before .before .before .before .before .before .wide .ensures .0)
-    (c .before .before .before .before .before .before .wide2 .ensures .0)
-    (c .before .before .before .wide3 .ensures .0)
-    (c .before .before .before .before .before .later .ensures .0)
-    (c .before .before .later2 .ensures .0)
-    (c .if1 .taken)
-    )
-
 sub-left : tie.Need-sub-left Inv-loop μ-loop
 sub-left c = search needs
 
 loop-less : tie.Need-loop-less Inv-loop μ-loop
 loop-less c = search needs
-
-loop-again : tie.Need-loop-again Inv-loop μ-loop
-loop-again c =
-    let t = c .before .before .before .before .before .before .before .before .before .before .before .before .before in (
-      search needs,
-      left-next _ _ _ _ (t .loop-test .taken) (t .before .loop .inv .0) (t .before .loop .inv .1) (
-          edge-keeps _ _ _ _ _ _ _
-          (c .before .before .before .before .before .before .before .before .wide .ensures .0)
-          (c .before .before .before .before .before .before .wide2 .ensures .0)
-          (c .before .before .before .wide3 .ensures .0)
-          (c .before .before .before .before .before .later .ensures .0)
-          (c .before .before .later2 .ensures .0)
-          (c .if1 .left)
-          ),
-    )
-
-returns-2 : tie.Need-returns-2 Inv-loop μ-loop
-returns-2 c = left-none _ _ _ _ (c .loop-test .left) (c .before .loop .inv .1)
 
 pub broken-edge-spec : {M : Type 1} → statement M
 broken-edge-spec =
