@@ -1,10 +1,10 @@
--- What the proofs of the rules share: tests, a product's bound, a count that grows by one node.
+-- Tests and a product's bound; the edge rule as the code asks it, edge after edge; tables filled node after node, and counts over them.
 -- Assumes nothing.
-use mathlib.Core.Path.{_≡_, refl, _∙_}
+use mathlib.Core.Path.{_≡_, refl, sym, _∙_}
 use mathlib.Core.Bool.{Bool, true, false}
 use mathlib.Core.List.{List}
-use Prim.Native.Nat.{ℕ, _+_, _*_, _≤_, _<_}
-use native.Mathlib.Nat.{mul-le-mul, zero-add, ne-of-lt, not-suc-le-zero}
+use Prim.Native.Nat.{ℕ, _+_, _-_, _*_, _≤_, _<_}
+use native.Mathlib.Nat.{mul-le-mul, sub-zero, zero-add, ne-of-lt, not-suc-le-zero}
 use native.Mathlib.Numerals.{add-one}
 use native.Mathlib.Omega.{arith}
 use lib.ListN.{length, getD, set}
@@ -14,6 +14,7 @@ use borrow.Author.Needs.{needs}
 use borrow.Author.Tests.{le-ltb, lt-ltb, le-leb, lt-leb, eq-eqb, ne-eqb}
 use Rattle.lists.specs.Pick.{pick}
 use Rattle.lists.specs.Span.{span}
+use Rattle.lists.specs.First.{firstFrom, first-here, first-next}
 use Rattle.lists.specs.Fold.{count, count-snoc}
 use Rattle.form.specs.declared.Form.{Form}
 use Rattle.form.specs.Places.{nodeOf, latencyOf, startOf, retimingOf}
@@ -35,6 +36,29 @@ product a b h k =
 
 -- ---- the edge rule
 
+-- a search of n numbers: none is left
+pub left-none : (test : ℕ → Bool) (n left whole : ℕ) → left ≤ 0 → firstFrom test left (n - left) ≡ whole → n ≡ whole
+unfolding firstFrom
+left-none test n left whole none rest =
+    let zero-left : left ≡ 0 = omega arith in
+    sym (sub-zero n) ∙ rw zero-left at rest
+
+-- or some are
+module _ (test : ℕ → Bool) (n left whole : ℕ) (some : 0 < left) (within : left ≤ n) (rest : firstFrom test left (n - left) ≡ whole) where
+  whole-rest : firstFrom test (n - (n - left)) (n - left) ≡ whole
+  whole-rest =
+      let back : n - (n - left) ≡ left = omega arith in
+      rw back rest
+
+  pub left-here : test (n - left) ≡ true → n - left ≡ whole
+  left-here passes = first-here test n (n - left) whole (omega arith) passes whole-rest
+
+  pub left-next : test (n - left) ≡ false → firstFrom test (left - 1) (n - (left - 1)) ≡ whole
+  left-next fails =
+      let less : left - 1 ≡ n - (n - left + 1) = omega arith in
+      let next : n - (left - 1) ≡ n - left + 1 = omega arith in
+      rw (next, less) (first-next test n (n - left) whole (omega arith) fails whole-rest)
+
 abbrev pub tailOf : Form → ℕ → ℕ
 tailOf f e = getD (f .from) e 0
 
@@ -52,25 +76,27 @@ ends-in f w e h =
     let g = w .edge e h in
     record { tail-in = omega arith; head-in = omega arith; class-in = omega (arith, w .node (tailOf f e) (g .from)) }
 
--- the code's delays, retimings of tail and head, and the two steps that they give
-module _ (f : Form) (e d r s begins ends : ℕ) (is-d : d ≡ getD (f .delays) e 0) (is-r : r ≡ retimingOf f (tailOf f e)) (is-s : s ≡ retimingOf f (headOf f e))
-    (is-begins : begins ≡ startOf f (headOf f e) + f .length * (d + r)) (is-ends : ends ≡ startOf f (tailOf f e) + f .length * s) where
-  begins-at : begins ≡ startOf f (headOf f e) + f .length * (getD (f .delays) e 0 + retimingOf f (tailOf f e))
-  begins-at = is-begins ∙ rw (is-d, is-r)
+-- the steps in which head and tail begin, each some iterations later, so that no number is below 0
+pub record Sides (f : Form) (e head tail : ℕ) : Type 0 where
+  pub is-head : head ≡ startOf f (headOf f e) + f .length * (getD (f .delays) e 0 + retimingOf f (tailOf f e))
+  pub is-tail : tail ≡ startOf f (tailOf f e) + f .length * retimingOf f (headOf f e)
 
-  ends-at : ends ≡ startOf f (tailOf f e) + f .length * retimingOf f (headOf f e)
-  ends-at = is-ends ∙ rw is-s
+-- of the delays and the retimings of tail and head that the code reads
+pub sides-are : (f : Form) (e d r s head tail : ℕ) → d ≡ getD (f .delays) e 0 → r ≡ retimingOf f (tailOf f e) → s ≡ retimingOf f (headOf f e)
+    → head ≡ startOf f (headOf f e) + f .length * (d + r) → tail ≡ startOf f (tailOf f e) + f .length * s → Sides f e head tail
+sides-are f e d r s head tail is-d is-r is-s is-head is-tail = record { is-head = is-head ∙ rw (is-d, is-r); is-tail = is-tail ∙ rw is-s }
 
-  pub edge-breaks : begins < ends + latencyOf f (tailOf f e) → breaks (loopOf f) (pairOf f) e ≡ true
+module _ (f : Form) (e head tail : ℕ) (s : Sides f e head tail) where
+  pub edge-breaks : head < tail + latencyOf f (tailOf f e) → breaks (loopOf f) (pairOf f) e ≡ true
   unfolding breaks loopOf pairOf graphOf
   edge-breaks h =
-      let broken : startOf f (headOf f e) + f .length * (getD (f .delays) e 0 + retimingOf f (tailOf f e)) < startOf f (tailOf f e) + latencyOf f (tailOf f e) + f .length * retimingOf f (headOf f e) = omega (arith, begins-at, ends-at) in
+      let broken : startOf f (headOf f e) + f .length * (getD (f .delays) e 0 + retimingOf f (tailOf f e)) < startOf f (tailOf f e) + latencyOf f (tailOf f e) + f .length * retimingOf f (headOf f e) = omega arith in
       lt-ltb _ _ broken
 
-  pub edge-keeps : ends + latencyOf f (tailOf f e) ≤ begins → breaks (loopOf f) (pairOf f) e ≡ false
+  pub edge-keeps : tail + latencyOf f (tailOf f e) ≤ head → breaks (loopOf f) (pairOf f) e ≡ false
   unfolding breaks loopOf pairOf graphOf
   edge-keeps h =
-      let kept : EdgeRule (loopOf f) (pairOf f) e = omega (arith, begins-at, ends-at) in
+      let kept : EdgeRule (loopOf f) (pairOf f) e = omega arith in
       le-ltb _ _ kept
 
 -- ---- the tables

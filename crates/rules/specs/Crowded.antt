@@ -2,18 +2,15 @@
 -- Assumes nothing.
 use mathlib.Core.Path.{_≡_, refl, sym, _∙_}
 use mathlib.Core.Bool.{Bool, true, false, _&&_, true≢false, false≢true}
-use mathlib.Core.Logic.{_⊎_, inl, inr, ⊎-elim}
+use mathlib.Core.Logic.{_⊎_, ⊎-elim}
 use Prim.Native.Nat.{ℕ, zero, suc, _+_, _≤_, _<_}
 use native.Mathlib.Omega.{arith}
-use native.Mathlib.Decide.{decLt, decLe}
+use native.Mathlib.Decide.{decLe}
 use lib.Dec.{eqb, leb, ltb}
-use borrow.Author.Tests.{ltb-true, ltb-false, leb-true, eqb-true, eqb-false, lt-ltb, le-leb, lt-leb, eq-eqb}
-use Rattle.lists.specs.Pick.{pick, pick-true, pick-false}
-use Rattle.lists.specs.Span.{span}
-use Rattle.lists.specs.Fold.{count}
-use Rattle.lists.specs.First.{First, first-is}
+use borrow.Author.Tests.{ltb-true, ltb-false, leb-true, eqb-true, lt-ltb, le-leb, lt-leb, eq-eqb}
+use Rattle.lists.specs.Pick.{pick-true, pick-false}
+use Rattle.lists.specs.First.{first-is}
 use Rattle.lists.specs.Count.{count-le, count-some, some-or-none}
-use Rattle.answer.specs.declared.Refusal.{Refusal}
 use Rattle.answer.specs.declared.Refusal.the-variants.{None, Units}
 use Rattle.legal.specs.Loop.{Loop, Pair, runsOn, hold}
 use Rattle.legal.specs.Legal.{occupies, busy}

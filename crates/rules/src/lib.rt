@@ -36,25 +36,26 @@ pub fn broken_edge(form: Form) -> u16
     ensures { λ r. ⌜ r ≡ brokenEdge (loopOf form) (pairOf form) ⌝ }
 {
     let length = form.length;
-    let mut e: u16 = 0;
-    while e < form.edges {
+    let mut left = form.edges;
+    while 0 < left {
+        let e = form.edges - left;
         let i = e as usize;
         let tail = form.from[i] as usize;
         let head = form.to[i] as usize;
         let class = form.class[form.node[tail].class as usize];
         let delays = wide(form.delays[i]);
-        let begins = later(
+        let head_begins = later(
             form.start[head].0,
             length,
             delays + wide(form.retiming[tail]),
         );
-        let ends = later(form.start[tail].0, length, wide(form.retiming[head]));
-        if begins < ends + class.latency as u32 {
+        let tail_begins = later(form.start[tail].0, length, wide(form.retiming[head]));
+        if head_begins < tail_begins + class.latency as u32 {
             return e;
         }
-        e += 1;
+        left -= 1;
     }
-    e
+    form.edges
 }
 
 // How many steps an operation holds its unit.
@@ -126,8 +127,7 @@ fn spot(step: u16, class: u8) -> u32
     step as u32 * 4 + class as u32
 }
 
-// Units with the lowest step that holds too much of a class, and the lowest such class. Something starts in that step on that class,
-// or the step before would hold as much; so the steps at which nodes start are enough.
+// Units with the lowest overfull step and its lowest class. A node of that class starts in it, or the step before would hold as much.
 pub fn crowded(form: Form) -> Refusal
     requires { ⌜ WellFormed form ⌝ }
     requires { ⌜ form .length ≢ 0 ⌝ }

@@ -1,29 +1,58 @@
 -- `rules::broken_edge` meets its contract: the first broken edge of those that are left is the first of all.
 -- Assumes nothing.
 use mathlib.Core.Path.{_≡_}
-use Prim.Native.Nat.{_≤_, _<_, _-_}
+use Prim.Native.Nat.{_≤_, _-_}
 use native.Mathlib.Omega.{arith}
-use native.Mathlib.Nat.{sub-zero}
+use native.Mathlib.Nat.{sub-self}
 use borrow.Author.Needs.{needs}
-use Rattle.lists.specs.First.{firstFrom, first-next, first-here, first-end}
+use Rattle.lists.specs.First.{firstFrom}
 use Rattle.legal.specs.Loop.{graphOf, loopOf, pairOf}
 use Rattle.legal.specs.Judging.{breaks, brokenEdge}
-use Rattle.rules.proofs.Laws.{Ends, ends-in, edge-breaks, edge-keeps}
+use Rattle.rules.proofs.Laws.{Ends, ends-in, Sides, sides-are, edge-breaks, edge-keeps, left-here, left-next, left-none}
 use Rattle.rules.proofs.broken_edge.Statement.{statement}
 use Rattle.rules.proofs.broken_edge.Tie as tie
 
 abbrev Inv-loop : tie.InvT-loop
-Inv-loop form length e₀ e = (e ≤ form .edges) × (firstFrom (breaks (loopOf form) (pairOf form)) (form .edges - e) e ≡ brokenEdge (loopOf form) (pairOf form))
+Inv-loop form length left₀ left = (left ≤ form .edges) × (firstFrom (breaks (loopOf form) (pairOf form)) left (form .edges - left) ≡ brokenEdge (loopOf form) (pairOf form))
 
 abbrev μ-loop : tie.MeasureT-loop
-μ-loop form length e₀ e = form .edges - e
-
-ends : (c : tie.In-loop Inv-loop μ-loop) → Ends (c .before .before .args .t1) (c .before .loop .e)
-ends c = ends-in _ (c .before .before .pre) _ (c .loop-test .taken)
+μ-loop form length left₀ left = left
 
 loop-holds : tie.Need-loop-holds Inv-loop μ-loop
 unfolding brokenEdge loopOf graphOf
-loop-holds c = (search needs, rw sub-zero)
+loop-holds c = (search needs, rw sub-self)
+
+-- what the code compares of an edge
+sides : (c : tie.After-struct-known Inv-loop μ-loop)
+    → Sides (c .before .before .before .before .before .before .before .before .before .before .before .before .before .before .args .t1)
+    (c .before .before .before .before .before .before .before .before .before .before .before .before .before .before .args .t1 .edges - c .before .before .before .before .before .before .before .before .before .before .before .before .before .loop .left)
+    (c .before .before .before .before .later .result)
+    (c .before .later2 .result)
+sides c =
+    let l = c .before .before .before .before in
+    let w = l .before .before .before in
+    sides-are _ _ _ _ _ _ _ (w .wide .ensures .0) (l .before .wide2 .ensures .0) (c .before .before .wide3 .ensures .0) (l .later .ensures .0) (c .before .later2 .ensures .0)
+
+returns : tie.Need-returns Inv-loop μ-loop
+returns c =
+    let t = c .before .before .before .before .before .before .before .before .before .before .before .before .before in
+    left-here _ _ _ _ (t .loop-test .taken) (t .before .loop .inv .0) (t .before .loop .inv .1) (edge-breaks _ _ _ _ (sides (c .before)) (c .if1 .taken))
+
+loop-again : tie.Need-loop-again Inv-loop μ-loop
+loop-again c =
+    let t = c .before .before .before .before .before .before .before .before .before .before .before .before .before in
+    (search needs, left-next _ _ _ _ (t .loop-test .taken) (t .before .loop .inv .0) (t .before .loop .inv .1) (edge-keeps _ _ _ _ (sides (c .before)) (c .if1 .left)))
+
+returns-2 : tie.Need-returns-2 Inv-loop μ-loop
+returns-2 c = left-none _ _ _ _ (c .loop-test .left) (c .before .loop .inv .1)
+
+-- ---- its places and numbers
+
+ends : (c : tie.In-loop Inv-loop μ-loop) → Ends (c .before .before .args .t1) (c .before .before .args .t1 .edges - c .before .loop .left)
+ends c = ends-in _ (c .before .before .pre) _ (omega arith)
+
+sub-e : tie.Need-sub-e Inv-loop μ-loop
+sub-e c = search needs
 
 cast-i : tie.Need-cast-i Inv-loop μ-loop
 cast-i c = search needs
@@ -100,26 +129,11 @@ cast-if1 c = search needs
 add-if1 : tie.Need-add-if1 Inv-loop μ-loop
 add-if1 c = search needs
 
-returns : tie.Need-returns Inv-loop μ-loop
-returns c =
-    let k = c .before in
-    let t = k .before .before .before .before .before .before .before .before .before .before .before .before in
-    first-here _ _ _ _ (t .loop-test .taken) (edge-breaks _ _ _ _ _ _ _ (c .before .before .before .before .before .before .before .before .wide .ensures .0) (c .before .before .before .before .before .before .wide2 .ensures .0) (c .before .before .before .wide3 .ensures .0) (c .before .before .before .before .before .later .ensures .0) (c .before .before .later2 .ensures .0) (c .if1 .taken)) (t .before .loop .inv .1)
-
-add-e : tie.Need-add-e Inv-loop μ-loop
-add-e c = search needs
+sub-left : tie.Need-sub-left Inv-loop μ-loop
+sub-left c = search needs
 
 loop-less : tie.Need-loop-less Inv-loop μ-loop
 loop-less c = search needs
-
-loop-again : tie.Need-loop-again Inv-loop μ-loop
-loop-again c =
-    let k = c .before in
-    let t = k .before .before .before .before .before .before .before .before .before .before .before .before in
-    (search needs, first-next _ _ _ _ (t .loop-test .taken) (edge-keeps _ _ _ _ _ _ _ (c .before .before .before .before .before .before .before .before .wide .ensures .0) (c .before .before .before .before .before .before .wide2 .ensures .0) (c .before .before .before .wide3 .ensures .0) (c .before .before .before .before .before .later .ensures .0) (c .before .before .later2 .ensures .0) (c .if1 .left)) (t .before .loop .inv .1))
-
-returns-2 : tie.Need-returns-2 Inv-loop μ-loop
-returns-2 c = first-end _ _ _ _ (c .loop-test .left) (c .before .loop .inv .1)
 
 pub broken-edge-spec : {M : Type 1} → statement M
 broken-edge-spec =
@@ -128,6 +142,7 @@ broken-edge-spec =
     Inv-loop
     μ-loop
     loop-holds
+    sub-e
     cast-i
     element-copy-out-tail
     cast-tail
@@ -154,7 +169,7 @@ broken-edge-spec =
     cast-if1
     add-if1
     returns
-    add-e
+    sub-left
     loop-less
     loop-again
     returns-2)

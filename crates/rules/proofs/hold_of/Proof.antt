@@ -1,3 +1,5 @@
+-- `rules::hold_of` meets its contract.
+-- Assumes nothing.
 use Rattle.lists.specs.Pick.{pick}
 use Rattle.legal.specs.Loop.{hold}
 use Rattle.rules.proofs.Laws.{tests}
