@@ -102,7 +102,133 @@ def record_cases():
         ask(REWRITE, record + b"\0", len(record))
 
 
+def plain(latency=1, units=1):
+    return (latency, units, 0)
+
+
+def ring(n, delays, latency=1, units=8):
+    """n nodes in a ring; the last edge has the delays."""
+    edges = [(v, (v + 1) % n, delays if v == n - 1 else 0) for v in range(n)]
+    return Form([plain(latency, units)], [(0, 0, v) for v in range(n)], edges)
+
+
+def crowd(n, units, starts, length, pipelined=0, latency=2):
+    """n nodes of one class without edges."""
+    return Form([(latency, units, pipelined)], [(0, 0, 0)] * n, [], length, starts, [0] * n)
+
+
+def schedules():
+    """Forms for the judge and the fit, good and bad, small enough that each cycle is the only one."""
+    yield SMALL
+    yield PAIR
+    yield SMALL.with_pair([1, 1, 2], 2, [0, 0, 0])
+    yield SMALL.with_pair([1, 1, 1], 2, [0, 0, 0])
+    yield SMALL.with_pair([1, 3, 4], 4, [0, 0, 0])
+    yield SMALL.with_pair([1, 3, 4], 9, [0, 0, 0])  # an idle end of the body
+    for starts in ([1, 3, 4], [1, 2, 3], [3, 1, 2], [2, 2, 1], [1, 1, 2], [2, 1, 1], [3, 4, 4]):
+        for retimings in ([0, 0, 0], [1, 0, 0], [2, 1, 0], [0, 1, 2], [63, 0, 1]):
+            yield SMALL.with_pair(starts, 4, retimings)
+    # self-edges, with and without delays; parallel edges, of which one binds
+    for delays in (0, 1, 2, 15):
+        yield Form([plain(3)], [(0, 0, 0)], [(0, 0, delays)], 3, [1], [0])
+        yield Form([plain(3)], [(0, 0, 0)], [(0, 0, 15), (0, 0, delays)], 4, [2], [0])
+    two = Form([plain(2, 2)], [(0, 0, 0), (0, 1, 0)], [(0, 1, 1), (0, 1, 0), (0, 1, 3), (1, 0, 2)])
+    for starts in ([1, 3], [1, 2], [3, 1]):
+        for retimings in ([0, 0], [1, 0], [0, 1]):
+            yield two.with_pair(starts, 4, retimings)
+    # knots of one edge, of two and of sixty-four, and the same rings with one delay
+    for n in (1, 2, 64):
+        for delays in (0, 1):
+            form = ring(n, delays)
+            yield form.with_pair([1] * n, 1, [0] * n)
+            yield form.with_pair([1 + v for v in range(n)], n, [0] * n)
+            yield form.with_pair([n - v for v in range(n)], n, [n - 1 - v for v in range(n)])
+    # limit sums of exactly 0 and one below, on a ring of three with two delays
+    for delays in (1, 2, 3):
+        yield ring(3, delays).with_pair([1, 1, 1], 1, [0, 0, 0])
+    # units exactly full and one over, plain and pipelined, at the beginning and in the middle
+    for pipelined in (0, 1):
+        for starts in ([1, 1, 2], [1, 2, 2], [1, 1, 3], [2, 2, 1], [3, 3, 3], [1, 3, 5], [4, 4, 5]):
+            yield crowd(3, 2, starts, 6, pipelined)
+    # pipelined beside plain: the lowest step, then the lowest class
+    mixed = Form([(2, 1, 1), (2, 1, 0)], [(0, 0, 0), (0, 0, 0), (1, 0, 0), (1, 0, 0)], [])
+    for starts in ([1, 2, 1, 3], [1, 1, 1, 3], [1, 2, 1, 2], [2, 2, 2, 2], [3, 3, 1, 2], [1, 2, 2, 3]):
+        yield mixed.with_pair(starts, 4, [0] * 4)
+    yield widest()
+    yield wide_legal()
+
+
+def wide_legal():
+    """64 nodes and 256 edges, one after the other."""
+    edges = [(e % 63, e % 63 + 1, 0) for e in range(252)] + [(63, 0, 15)] * 4
+    return Form([plain(8, 1)], [(0, 0, 0)] * 64, edges, 512, [1 + 8 * v for v in range(64)], [0] * 64)
+
+
+def judge_cases():
+    for form in schedules():
+        record = model.write(form)
+        ask(JUDGE, record)
+        ask(FIT, record, len(record))
+    record = model.write(PAIR)
+    for size in (0, 2, 3, 11, 52):
+        ask(JUDGE, record[:size])
+        ask(FIT, record[:size], 53)
+    for room in (0, 52, 53, 60):
+        ask(FIT, record, room)
+    ask(JUDGE, record + b"\0")
+
+
+def floors():
+    """Forms for the floor: each part winning alone, ties, an unused class, the largest floor."""
+    yield SMALL
+    yield PAIR
+    yield Form([plain(5, 8)], [(0, 0, 0)], [])  # a alone
+    yield Form([plain(1, 2)], [(0, 0, 0)] * 5, [])  # b alone, rounded up
+    yield Form([(4, 2, 1)], [(0, 0, 0)] * 9, [])  # b of a pipelined class
+    yield Form([plain(1, 1), plain(1, 1), plain(8, 1)], [(1, 0, 0)] * 3 + [(0, 0, 0)] * 3, [])  # the lowest class; class 2 is not used
+    yield ring(5, 1)  # c alone
+    yield ring(5, 2)  # c rounded up
+    yield Form([plain(2, 1)], [(0, 0, 0)], [])  # a and b
+    yield Form([plain(3, 8)], [(0, 0, 0)], [(0, 0, 1)])  # a and c
+    yield Form([plain(1, 1)], [(0, 0, 0)] * 3, [(0, 1, 0), (1, 2, 0), (2, 0, 1)])  # b and c
+    for delays in (1, 2, 3, 15):
+        yield Form([plain(8, 8)], [(0, 0, 0)], [(0, 0, delays)])
+    yield ring(64, 1, 8)  # the largest floor
+    yield ring(64, 15, 8)
+    yield ring(3, 0)  # a knot
+
+
+def floor_cases():
+    for form in floors():
+        ask(FLOOR, model.write(form))
+    ask(FLOOR, b"RS")
+    ask(FLOOR, model.write(PAIR) + b"x")
+
+
+def list_cases():
+    pair = model.write(PAIR)
+    size = len(model.listing(pair))
+    for room in (0, size - 1, size, size + 2):
+        ask(LIST, pair, room)
+    # every refusal that a record can get
+    bad = [b"", b"ABC" + pair[3:], set_byte(pair, 3, 2), set_byte(pair, 5, 9), set_byte(pair, 11, 9), set_byte(pair, 17, 9),
+           set_byte(pair, 35, 9), set_byte(pair, 44, 9), set_byte(pair, 46, 64), pair + b"x"]
+    for record in bad:
+        ask(LIST, record, 20)
+    for form in (SMALL, ring(2, 0).with_pair([1, 2], 2, [0, 0]), SMALL.with_pair([1, 1, 2], 2, [0, 0, 0]),
+                 crowd(64, 8, [1] * 64, 2)):
+        ask(LIST, model.write(form), 20)
+    ask(LIST, model.write(SMALL), 10)
+    full = Form([plain(1, 8)] * 4, [(v % 4, 0, 0) for v in range(64)], [], 3, [1 + 2 * (v // 32) for v in range(64)], [v % 64 for v in range(64)])
+    for form in (SMALL.with_pair([1, 3, 4], 9, [0, 0, 0]), full, wide_legal()):
+        text = model.listing(model.write(form))
+        ask(LIST, model.write(form), len(text))
+
+
 record_cases()
+judge_cases()
+floor_cases()
+list_cases()
 with open("crates/cases/stdin", "wb") as file:
     file.write(b"".join(requests))
 with open("crates/cases/stdout", "w") as file:

@@ -46,6 +46,9 @@ fn ask(what: u8, record: &[u8], out: &mut [u8], answer: &mut [u32; 69]) {
         0 => {
             rsk_c::rsk_rewrite(record, out, answer);
         }
+        1 => {
+            rsk_c::rsk_judge(record, answer);
+        }
         _ => {}
     }
 }
