@@ -19,6 +19,14 @@ use Rattle.reader.specs.Reading.{readForm}
 use Rattle.writer.specs.declared.Written.{Written}
 use Rattle.writer.specs.Writing.{refusalOf, written, bufferAfter}
 use Rattle.rsk_c.specs.Rewrite.{rewritten, rewrittenOut, rewrittenAnswer}
+use mathlib.Core.Logic.{_≢_}
+use Rattle.answer.specs.declared.Cycle.{Cycle}
+use Rattle.answer.specs.declared.Refusal.{Refusal}
+use Rattle.answer.specs.declared.Refusal.the-variants as refusal
+use Rattle.legal.specs.Loop.{Loop, Pair}
+use Rattle.legal.specs.Handed.{Handed}
+use Rattle.judge.specs.declared.Judged.{Judged}
+use Rattle.judge.specs.Judgement.{RecordJudgement}
 
 -- what a definition gives is one thing
 pub settled {ℓ} : {A : Type ℓ} {x : A} (a b : A) → a ≡ x → b ≡ x → a ≡ b
@@ -76,3 +84,15 @@ rewrite-refused s out e = go (fine (readForm s .refusal)) e
         → pick b (bufferAfter (readForm s .form) out) out ≡ out
     go true e = write-refused (readForm s .form) out e
     go false e = mathlib.Core.Path.refl
+
+-- where no cycle is handed over, it is the empty one
+pub cycle-settled : (g : Loop) (p : Pair) (r q : Refusal) (c d : Cycle) → Handed g p r c → Handed g p q d → r ≡ q
+    → r ≢ refusal.Knot → r ≢ refusal.NoRetiming → c ≡ d
+cycle-settled g p r q c d h k e a b = settled c d (h .none a b) (k .none (λ t. a (e ∙ t)) (λ t. b (e ∙ t)))
+
+-- judging: the refusal and its details are settled, and so is the cycle where none is handed over
+pub judge-settled : (s : List ℕ) (a b : Judged) → RecordJudgement s a → RecordJudgement s b
+    → (a .refusal ≡ b .refusal) × (a .refusal ≢ refusal.Knot → a .refusal ≢ refusal.NoRetiming → a .cycle ≡ b .cycle)
+judge-settled s a b p q =
+    let same : a .refusal ≡ b .refusal = settled (a .refusal) (b .refusal) (p .refusal) (q .refusal) in
+    (same, λ k n. cycle-settled _ _ _ _ _ _ (p .handed) (q .handed) same k n)

@@ -1,4 +1,4 @@
--- Demand 2. Reading and writing records undo each other.
+-- Demand 2. Reading and writing records undo each other; the judge accepts exactly the legal pairs.
 -- Assumes nothing.
 use mathlib.Core.Path.{_≡_, ap}
 use mathlib.Core.Bool.{true}
@@ -19,6 +19,15 @@ use Rattle.record.specs.Held.{Held}
 use Rattle.record.specs.Read as reading
 use Rattle.record.specs.Written as writing
 use Rattle.record.specs.RoundTrip as trip
+use mathlib.Core.Logic.{_≢_}
+use Rattle.answer.specs.declared.Refusal.the-variants as refusal
+use Rattle.legal.specs.Loop.{loopOf, pairOf}
+use Rattle.legal.specs.Legal.{Legal, Knot}
+use Rattle.legal.specs.Knots.{Free}
+use Rattle.legal.specs.Limits.{EdgeRules}
+use Rattle.legal.specs.Ruled.{LowestEdge, LowestOver}
+use Rattle.legal.specs.Judging.{judgeOf}
+use Rattle.legal.specs.Judged as judging
 
 -- reading what the writer wrote gives the form on its used places, and 0 elsewhere
 pub written-then-read : (f : Form) (out : List ℕ) → Held f → fine (refusalOf f (length out)) ≡ true
@@ -47,3 +56,43 @@ taken-well-formed = writing.written-well-formed
 
 pub refused-by-field : (f : Form) → Held f → (numberOf (readForm (layout f) .refusal) ≡ 0) ⊎ Within 4 9 (numberOf (readForm (layout f) .refusal))
 refused-by-field = writing.written-refusals
+
+-- ---- the judge, of a well-formed form
+
+module _ (f : Form) (w : WellFormed f) where
+  -- it accepts exactly the legal pairs
+  pub accepted-legal : judgeOf f ≡ None → (f .length ≢ 0) × Legal (loopOf f) (pairOf f)
+  accepted-legal = judging.judge-accepts f w
+
+  pub legal-accepted : f .length ≢ 0 → Legal (loopOf f) (pairOf f) → judgeOf f ≡ None
+  legal-accepted = judging.accepts-judge f w
+
+  -- Bare exactly where there is no schedule
+  pub bare-unscheduled : judgeOf f ≡ refusal.Bare → f .length ≡ 0
+  bare-unscheduled = judging.judge-bare f w
+
+  pub unscheduled-bare : f .length ≡ 0 → judgeOf f ≡ refusal.Bare
+  unscheduled-bare = judging.bare-judge f w
+
+  -- else Knot exactly where a cycle of edges has delay sum 0
+  pub refused-knot : judgeOf f ≡ refusal.Knot → (f .length ≢ 0) × ((es : List ℕ) × Knot (loopOf f) es)
+  refused-knot = judging.judge-knot f w
+
+  pub knot-refused : f .length ≢ 0 → (es : List ℕ) → Knot (loopOf f) es → judgeOf f ≡ refusal.Knot
+  knot-refused = judging.knot-judge f w
+
+  -- else Dependence exactly with the lowest edge that breaks the edge rule
+  pub refused-dependence : (e : ℕ) → judgeOf f ≡ refusal.Dependence e → (f .length ≢ 0) × Free (loopOf f) × LowestEdge (loopOf f) (pairOf f) e
+  refused-dependence = judging.judge-dependence f w
+
+  pub dependence-refused : (e : ℕ) → f .length ≢ 0 → Free (loopOf f) → LowestEdge (loopOf f) (pairOf f) e → judgeOf f ≡ refusal.Dependence e
+  dependence-refused = judging.dependence-judge f w
+
+  -- else Units exactly with the lowest step that holds too much, and its lowest class
+  pub refused-units : (q c : ℕ) → judgeOf f ≡ refusal.Units q c
+      → (f .length ≢ 0) × Free (loopOf f) × EdgeRules (loopOf f) (pairOf f) × LowestOver (loopOf f) (pairOf f) q c
+  refused-units = judging.judge-units f w
+
+  pub units-refused : (q c : ℕ) → f .length ≢ 0 → Free (loopOf f) → EdgeRules (loopOf f) (pairOf f) → LowestOver (loopOf f) (pairOf f) q c
+      → judgeOf f ≡ refusal.Units q c
+  units-refused = judging.units-judge f w
