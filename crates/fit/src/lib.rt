@@ -1,6 +1,18 @@
 // Fitting a retiming to given starts.
+ghost use mathlib.Core.Logic.{_≢_};
+ghost use mathlib.Core.Path.{_≡_};
+ghost use Prim.Native.Nat.{ℕ, _+_, _≤_, _<_};
+ghost use lib.Dec.{leb};
+ghost use lib.ListN.{getD, take};
+ghost use Rattle.lists.specs.Pick.{pick};
+ghost use Rattle.lists.specs.Fold.{top};
+ghost use Rattle.form.specs.Ranges.{WellFormed};
+ghost use Rattle.legal.specs.Loop.{loopOf, pairOf};
+ghost use Rattle.fit.specs.Tables.{Limited, turnedOver};
+ghost use Rattle.fit.specs.Retimed.{StartsFitted};
 use answer::Cycle;
 use answer::Refusal;
+use form::Form;
 
 // The retiming where one fits, all 0 else; the cycle that proves that none does.
 pub struct Fitting {
@@ -14,4 +26,110 @@ pub struct Fitted {
     pub refusal: Refusal,
     pub size: u32,
     pub cycle: Cycle,
+}
+
+// What each edge gains and costs the retimings, in tables that can be lent.
+struct Limits {
+    gains: [u16; 256],
+    costs: [u16; 256],
+}
+
+// A byte as a u16; the bound spares each use a proof.
+fn wide(x: u8) -> u16
+    ensures { λ r. ⌜ (r ≡ x) × (r < 256) ⌝ }
+{
+    x as u16
+}
+
+// 0 where a node that starts at `start` is finished when another starts at `next`, else 1.
+fn late(start: u16, latency: u8, next: u16) -> u16
+    ensures { λ r. ⌜ r ≡ pick (leb (start + latency) next) 0 1 ⌝ }
+{
+    if start as u32 + latency as u32 <= next as u32 {
+        return 0;
+    }
+    1
+}
+
+// The delays of the edges, and which of them are late by a body.
+fn limits_of(form: Form) -> Limits
+    requires { ⌜ WellFormed form ⌝ }
+    ensures { λ t. ⌜ Limited form (form .edges) (t .gains) (t .costs) ⌝ }
+{
+    let mut gains = [0u16; 256];
+    let mut costs = [0u16; 256];
+    let edges = form.edges as usize;
+    let mut e: usize = 0;
+    while e < edges {
+        let tail = form.from[e] as usize;
+        let head = form.to[e] as usize;
+        let class = form.class[form.node[tail].class as usize];
+        let delays = wide(form.delays[e]);
+        let cost = late(form.start[tail].0, class.latency, form.start[head].0);
+        gains[e] = delays;
+        costs[e] = cost;
+        e += 1;
+    }
+    Limits { gains, costs }
+}
+
+// The largest of the first values.
+fn top_of(values: &[u32; 64], nodes: u8) -> u32
+    requires { ⌜ nodes ≤ 64 ⌝ }
+    ensures { λ r. ⌜ r ≡ top (take nodes (now (values .entry))) ⌝ }
+{
+    let mut highest: u32 = 0;
+    for v in 0..nodes {
+        let value = values[v as usize];
+        if highest < value {
+            highest = value;
+        }
+    }
+    highest
+}
+
+// How far each of the first values is below the top of them; 0 past them.
+fn turned(values: &[u32; 64], nodes: u8, highest: u32) -> [u8; 64]
+    requires { ⌜ (nodes ≤ 64) × (highest ≤ 63) ⌝ }
+    requires { ⌜ ((v : ℕ) → v < nodes → getD (now values) v 0 ≤ highest) ⌝ }
+    ensures { λ r. ⌜ r ≡ turnedOver highest (now (values .entry)) nodes ⌝ }
+{
+    let mut retiming = [0u8; 64];
+    for v in 0..nodes {
+        let i = v as usize;
+        retiming[i] = (highest - values[i]) as u8;
+    }
+    retiming
+}
+
+// The retiming of least depth that fits the starts, node by node the largest; or a cycle that no retiming can pass.
+pub fn fit_starts(form: Form) -> Fitting
+    requires { ⌜ WellFormed form ⌝ }
+    requires { ⌜ form .length ≢ 0 ⌝ }
+    ensures { λ r. ⌜ StartsFitted (loopOf form) (pairOf form) r ⌝ }
+{
+    let nodes = form.nodes;
+    let limits = limits_of(form);
+    let solution = solve::solve(
+        nodes,
+        form.edges,
+        &form.from,
+        &form.to,
+        &limits.gains,
+        &limits.costs,
+    );
+    let cycle = solution.cycle;
+    if !solution.settled {
+        return Fitting {
+            fits: false,
+            retiming: [0; 64],
+            cycle,
+        };
+    }
+    let highest = top_of(&solution.values, nodes);
+    Fitting {
+        fits: true,
+        retiming: turned(&solution.values, nodes, highest),
+        cycle,
+    }
 }
