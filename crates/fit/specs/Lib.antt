@@ -1,3 +1,5 @@
 pub mod Tables
 pub mod Retimed
 pub mod Fitting
+pub mod Retimings
+pub mod Laws
