@@ -9,7 +9,9 @@ ghost use Rattle.lists.specs.Fold.{top};
 ghost use Rattle.form.specs.Ranges.{WellFormed};
 ghost use Rattle.legal.specs.Loop.{loopOf, pairOf};
 ghost use Rattle.fit.specs.Tables.{Limited, turnedOver};
-ghost use Rattle.fit.specs.Retimed.{StartsFitted};
+ghost use Rattle.fit.specs.Retimed.{withRetiming, StartsFitted};
+ghost use Rattle.fit.specs.Planned.{Planned};
+ghost use Rattle.fit.specs.Fitting.{RecordFitted};
 use answer::Cycle;
 use answer::Refusal;
 use form::Form;
@@ -32,6 +34,13 @@ pub struct Fitted {
 struct Limits {
     gains: [u16; 256],
     costs: [u16; 256],
+}
+
+// A form with its starts fitted, or what is refused of it with its cycle.
+struct Plan {
+    refusal: Refusal,
+    cycle: Cycle,
+    form: Form,
 }
 
 // A byte as a u16; the bound spares each use a proof.
@@ -130,6 +139,85 @@ pub fn fit_starts(form: Form) -> Fitting
     Fitting {
         fits: true,
         retiming: turned(&solution.values, nodes, highest),
+        cycle,
+    }
+}
+
+// The form with another retiming.
+fn with_retiming(mut form: Form, retiming: [u8; 64]) -> Form
+    ensures { λ r. ⌜ r ≡ withRetiming form retiming ⌝ }
+{
+    form.retiming = retiming;
+    form
+}
+
+// What is refused of a form in turn, else the form with the retiming that fits. The unit rule asks the starts alone.
+fn plan_of(form: Form) -> Plan
+    requires { ⌜ WellFormed form ⌝ }
+    ensures { λ r. ⌜ Planned form r ⌝ }
+{
+    if form.length == 0 {
+        return Plan {
+            refusal: Refusal::Bare,
+            cycle: Cycle::none(),
+            form,
+        };
+    }
+    let knot = knots::knot_of(form);
+    if 0 < knot.count {
+        return Plan {
+            refusal: Refusal::Knot,
+            cycle: knot,
+            form,
+        };
+    }
+    let fitting = fit_starts(form);
+    let cycle = fitting.cycle;
+    if !fitting.fits {
+        return Plan {
+            refusal: Refusal::NoRetiming,
+            cycle,
+            form,
+        };
+    }
+    let retiming = fitting.retiming;
+    Plan {
+        refusal: rules::crowded(form),
+        cycle,
+        form: with_retiming(form, retiming),
+    }
+}
+
+// The record with a retiming that fits its starts, into `out`; a refusal leaves `out` as it was.
+pub fn fit(record: &[u8], out: &mut [u8]) -> Fitted
+    ensures { λ r. ⌜ RecordFitted (now («record» .entry)) (now (out .entry)) (now (out .exit)) r ⌝ }
+{
+    let read = reader::read(record);
+    let unread = read.refusal;
+    if !unread.is_fine() {
+        return Fitted {
+            refusal: unread,
+            size: 0,
+            cycle: Cycle::none(),
+        };
+    }
+    let form = read.form;
+    let plan = plan_of(form);
+    let refusal = plan.refusal;
+    let cycle = plan.cycle;
+    if !refusal.is_fine() {
+        return Fitted {
+            refusal,
+            size: 0,
+            cycle,
+        };
+    }
+    let fitted = plan.form;
+    let written = writer::write(fitted, out);
+    let refused = written.refusal;
+    Fitted {
+        refusal: refused,
+        size: written.size,
         cycle,
     }
 }
