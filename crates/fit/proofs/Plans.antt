@@ -1,0 +1,109 @@
+-- The ways that a fit goes: through a form, through a record.
+-- Assumes nothing.
+use mathlib.Core.Path.{_≡_, refl, sym, ap, subst, _∙_}
+use mathlib.Core.Bool.{true, false}
+use mathlib.Core.Logic.{_≢_, ⊎-elim}
+use mathlib.Core.List.{List}
+use Prim.Native.Nat.{ℕ, _≤_, _<_}
+use native.Mathlib.Omega.{arith}
+use borrow.Author.Tests.{eq-eqb, ne-eqb}
+use lib.Dec.{eqb, leb}
+use lib.ListN.{length}
+use Rattle.lists.specs.Pick.{pick, pick-ind, pick-true, pick-false, both-ways}
+use Rattle.lists.specs.Place.{zeros-at}
+use Rattle.answer.specs.Refused.{numberOf, fine}
+use Rattle.answer.specs.Outcome.{noCycle}
+use Rattle.answer.specs.declared.Cycle.{Cycle}
+use Rattle.answer.specs.declared.Refusal.{Refusal}
+use Rattle.answer.specs.declared.Refusal.the-variants.{None, Bare, Knot, NoRetiming}
+use Rattle.form.specs.declared.Form.{Form}
+use Rattle.form.specs.Ranges.{WellFormed}
+use Rattle.field.specs.Number.{Bytes}
+use Rattle.reader.specs.declared.Record.{Record}
+use Rattle.reader.specs.Reading.{readForm}
+use Rattle.writer.specs.declared.Written.{Written}
+use Rattle.writer.specs.Writing.{refusalOf, written, bufferAfter}
+use Rattle.record.specs.Held.{Held}
+use Rattle.record.specs.Read.{read-well-formed}
+use Rattle.record.specs.ReadHeld.{read-held}
+use Rattle.system.specs.Rounds.{settledOf}
+use Rattle.legal.specs.Loop.{Loop, Pair, loopOf, pairOf}
+use Rattle.legal.specs.Systems.{knotted, limits}
+use Rattle.legal.specs.Judging.{overStep, unitsOf}
+use Rattle.legal.specs.Handed.{Handed}
+use Rattle.knots.specs.Found.{KnotFound}
+use Rattle.judge.specs.Early.{read-early}
+use Rattle.fit.specs.declared.Fitting.{Fitting}
+use Rattle.fit.specs.declared.Fitted.{Fitted}
+use Rattle.fit.specs.declared.Plan.{Plan}
+use Rattle.fit.specs.Retimed.{withRetiming, fittedForm, StartsFitted}
+use Rattle.fit.specs.Fitting.{fitOf, fitRecord, fitBuffer, RecordFitted}
+use Rattle.fit.specs.Planned.{Planned}
+use Rattle.fit.specs.Laws.{fit-none, fitted-written}
+
+-- beside a refusal that no cycle proves none is handed over
+handed-none : (g : Loop) (p : Pair) (r : Refusal) (c : Cycle) → numberOf r ≢ 12 → numberOf r ≢ 14 → c ≡ noCycle → Handed g p r c
+handed-none g p r c unknotted fitting e = record {
+  knot = λ k. absurd (unknotted (ap numberOf k));
+  impossible = λ k. absurd (fitting (ap numberOf k));
+  none = λ k n. e;
+  filled = λ i h. rw e (zeros-at 64 i);
+}
+
+-- ---- a form
+
+units-number : (g : Loop) (p : Pair) → (numberOf (unitsOf g p) ≢ 12) × (numberOf (unitsOf g p) ≢ 14)
+unfolding unitsOf
+units-number g p = pick-ind (λ r. (numberOf r ≢ 12) × (numberOf r ≢ 14)) (leb (overStep g p) (p .length)) _ _ (λ e. (omega arith, omega arith)) (λ e. (omega arith, omega arith))
+
+module _ (f : Form) where
+  pub plan-bare : f .length ≡ 0 → (c : Cycle) → c ≡ noCycle → Planned f (record { refusal = Bare; cycle = c; form = f })
+  unfolding fitOf fine
+  plan-bare z c e = record {
+    refusal = sym (pick-true (eqb (f .length) 0) _ _ (eq-eqb _ _ z));
+    form = λ q. both-ways q refl;
+    handed = handed-none (loopOf f) (pairOf f) Bare c (omega arith) (omega arith) e;
+  }
+
+  module _ (n : f .length ≢ 0) (k : Cycle) (found : KnotFound (loopOf f) k) where
+    pub plan-knot : 0 < k .count → Planned f (record { refusal = Knot; cycle = k; form = f })
+    unfolding fitOf fine
+    plan-knot l = record {
+      refusal = sym (pick-false (eqb (f .length) 0) _ _ (ne-eqb _ _ n) ∙ pick-true (knotted (loopOf f)) _ _ (found .tied l));
+      form = λ q. both-ways q refl;
+      handed = record {
+        knot = λ _. found .knot l;
+        impossible = λ q. let z : _≡_ {A = ℕ} 12 14 = ap numberOf q in absurd (omega arith);
+        none = λ q _. absurd (q refl);
+        filled = found .filled;
+      };
+    }
+
+    module _ (l : k .count ≤ 0) (t : Fitting) (s : StartsFitted (loopOf f) (pairOf f) t) where
+      past-knots : fitOf f ≡ pick (settledOf (limits (loopOf f) (pairOf f)) .settled) (unitsOf (loopOf f) (pairOf f)) NoRetiming
+      unfolding fitOf
+      past-knots = pick-false (eqb (f .length) 0) _ _ (ne-eqb _ _ n) ∙ pick-false (knotted (loopOf f)) _ _ (found .free (omega arith))
+
+      pub plan-unfit : t .fits ≡ false → Planned f (record { refusal = NoRetiming; cycle = t .cycle; form = f })
+      unfolding fine
+      plan-unfit b = record {
+        refusal = sym (past-knots ∙ pick-false _ _ _ (sym (s .fits) ∙ b));
+        form = λ q. both-ways q refl;
+        handed = record {
+          knot = λ q. let z : _≡_ {A = ℕ} 14 12 = ap numberOf q in absurd (omega arith);
+          impossible = λ _. s .impossible b;
+          none = λ _ q. absurd (q refl);
+          filled = s .filled;
+        };
+      }
+
+      pub plan-fits : t .fits ≡ true → (r : Refusal) → r ≡ unitsOf (loopOf f) (pairOf f) → (h : Form) → h ≡ withRetiming f (t .retiming)
+          → Planned f (record { refusal = r; cycle = t .cycle; form = h })
+      unfolding fittedForm
+      plan-fits b r is h e =
+          let u = units-number (loopOf f) (pairOf f) in
+          record {
+            refusal = is ∙ sym (past-knots ∙ pick-true _ _ _ (sym (s .fits) ∙ b));
+            form = λ _. e ∙ ap (withRetiming f) (s .retiming b);
+            handed = handed-none (loopOf f) (pairOf f) r (t .cycle) (λ q. u .0 (sym (ap numberOf is) ∙ q)) (λ q. u .1 (sym (ap numberOf is) ∙ q)) (s .none b);
+          }
