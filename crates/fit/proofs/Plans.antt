@@ -1,7 +1,7 @@
 -- The ways that a fit goes: through a form, through a record.
 -- Assumes nothing.
 use mathlib.Core.Path.{_≡_, refl, sym, ap, subst, _∙_}
-use mathlib.Core.Bool.{true, false}
+use mathlib.Core.Bool.{Bool, true, false}
 use mathlib.Core.Logic.{_≢_, ⊎-elim}
 use mathlib.Core.List.{List}
 use Prim.Native.Nat.{ℕ, _≤_, _<_}
@@ -9,6 +9,7 @@ use native.Mathlib.Omega.{arith}
 use borrow.Author.Tests.{eq-eqb, ne-eqb}
 use lib.Dec.{eqb, leb}
 use lib.ListN.{length}
+use lib.Seq.{sets}
 use Rattle.lists.specs.Pick.{pick, pick-ind, pick-true, pick-false, both-ways}
 use Rattle.lists.specs.Place.{zeros-at}
 use Rattle.answer.specs.Refused.{numberOf, fine}
@@ -22,6 +23,7 @@ use Rattle.field.specs.Number.{Bytes}
 use Rattle.reader.specs.declared.Record.{Record}
 use Rattle.reader.specs.Reading.{readForm}
 use Rattle.writer.specs.declared.Written.{Written}
+use Rattle.writer.specs.Layout.{layout}
 use Rattle.writer.specs.Writing.{refusalOf, written, bufferAfter}
 use Rattle.record.specs.Held.{Held}
 use Rattle.record.specs.Read.{read-well-formed}
@@ -39,7 +41,7 @@ use Rattle.fit.specs.declared.Plan.{Plan}
 use Rattle.fit.specs.Retimed.{withRetiming, fittedForm, StartsFitted}
 use Rattle.fit.specs.Fitting.{fitOf, fitRecord, fitBuffer, RecordFitted}
 use Rattle.fit.specs.Planned.{Planned}
-use Rattle.fit.specs.Laws.{fit-none, fitted-written}
+use Rattle.fit.specs.Laws.{Told, bare, knot, unfit, units, fits, fit-told, fit-none, fitted-written}
 
 -- beside a refusal that no cycle proves none is handed over
 handed-none : (g : Loop) (p : Pair) (r : Refusal) (c : Cycle) → numberOf r ≢ 12 → numberOf r ≢ 14 → c ≡ noCycle → Handed g p r c
@@ -107,3 +109,93 @@ module _ (f : Form) where
             form = λ _. e ∙ ap (withRetiming f) (s .retiming b);
             handed = handed-none (loopOf f) (pairOf f) r (t .cycle) (λ q. u .0 (sym (ap numberOf is) ∙ q)) (λ q. u .1 (sym (ap numberOf is) ∙ q)) (s .none b);
           }
+
+-- ---- a record
+
+pick-twice : {A : Type 0} (b : Bool) (x y : A) → pick b (pick b x y) y ≡ pick b x y
+unfolding pick
+pick-twice true x y = refl
+pick-twice false x y = refl
+
+told-none : (g : Loop) (p : Pair) (r : Refusal) → Told g p r → fine r ≡ true → r ≡ None
+unfolding fine
+told-none g p r (bare z) e = both-ways e refl
+told-none g p r (knot n es k) e = both-ways e refl
+told-none g p r (unfit n free none) e = both-ways e refl
+told-none g p r (units n free s q c t) e = both-ways e refl
+told-none g p r (fits n free s u) e = refl
+
+module _ (s out : List ℕ) where
+  refused : (r : Refusal) (c : Cycle) → r ≡ fitRecord s (length out) → fine r ≡ false → Handed (loopOf (readForm s .form)) (pairOf (readForm s .form)) r c
+      → RecordFitted s out out (record { refusal = r; size = 0; cycle = c })
+  unfolding fitBuffer
+  refused r c is b handed = record {
+    refusal = is;
+    size = sym (pick-false (fine r) _ 0 b);
+    buffer = sym (pick-false (fine (fitRecord s (length out))) _ out (ap fine (sym is) ∙ b));
+    handed = handed;
+  }
+
+  module _ (x : Record) (back : x ≡ readForm s) where
+    -- what the reader refuses
+    pub fit-unread : fine (x .refusal) ≡ false → (c : Cycle) → c ≡ noCycle → RecordFitted s out out (record { refusal = x .refusal; size = 0; cycle = c })
+    unfolding fitRecord
+    fit-unread b c e =
+        let early : numberOf (x .refusal) ≤ 10 = rw back (read-early s) in
+        refused (x .refusal) c (sym (rw (← back) (pick-false (fine (x .refusal)) _ (x .refusal) b))) b (handed-none _ _ (x .refusal) c (λ q. omega arith) (λ q. omega arith) e)
+
+    module _ (bytes : Bytes s) (e : fine (x .refusal) ≡ true) where
+      read-fine : fine (readForm s .refusal) ≡ true
+      read-fine = ap (λ (r : Record). fine (r .refusal)) (sym back) ∙ e
+
+      -- a form that is read is well-formed
+      pub form-good : WellFormed (x .form)
+      form-good = rw back (read-well-formed s bytes read-fine)
+
+      module _ (y : Plan) (planned : Planned (x .form) y) where
+        plan : Planned (readForm s .form) y
+        plan = subst (λ (r : Record). Planned (r .form) y) back planned
+
+        -- what is refused of the form
+        pub fit-refused : fine (y .refusal) ≡ false → RecordFitted s out out (record { refusal = y .refusal; size = 0; cycle = y .cycle })
+        unfolding fitRecord
+        fit-refused b =
+            let is : fitRecord s (length out) ≡ fitOf (readForm s .form) =
+            pick-true (fine (readForm s .refusal)) _ _ read-fine ∙ pick-false (fine (fitOf (readForm s .form))) _ _ (ap fine (sym (plan .refusal)) ∙ b) in
+            refused (y .refusal) (y .cycle) (plan .refusal ∙ sym is) b (plan .handed)
+
+        module _ (b : fine (y .refusal) ≡ true) where
+          fit-fine : fine (fitOf (readForm s .form)) ≡ true
+          fit-fine = ap fine (sym (plan .refusal)) ∙ b
+
+          none : fitOf (readForm s .form) ≡ None
+          none = told-none _ _ _ (fit-told (readForm s .form) (read-well-formed s bytes read-fine)) fit-fine
+
+          writes : fitRecord s (length out) ≡ refusalOf (fittedForm (readForm s .form)) (length out)
+          unfolding fitRecord
+          writes = pick-true (fine (readForm s .refusal)) _ _ read-fine ∙ pick-true (fine (fitOf (readForm s .form))) _ _ fit-fine
+
+          unproved : (numberOf (refusalOf (fittedForm (readForm s .form)) (length out)) ≢ 12) × (numberOf (refusalOf (fittedForm (readForm s .form)) (length out)) ≢ 14)
+          unproved =
+              let w = read-well-formed s bytes read-fine in
+              let t = fit-none (readForm s .form) w none in
+              ⊎-elim (λ q. (omega (arith, ap numberOf q), omega (arith, ap numberOf q))) (λ q. (omega (arith, ap numberOf q), omega (arith, ap numberOf q)))
+              (fitted-written (readForm s .form) w (t .0) (t .2) (read-held s bytes read-fine) (length out))
+
+          y-none : y .refusal ≡ None
+          y-none = plan .refusal ∙ none
+
+          -- what the writer makes of the form with the retiming found
+          pub fit-written : (z : Written) (last : List ℕ) → z ≡ written (y .form) (length out) → last ≡ bufferAfter (y .form) out
+              → RecordFitted s out last (record { refusal = z .refusal; size = z .size; cycle = y .cycle })
+          unfolding fitBuffer written bufferAfter
+          fit-written z last is-z is-last =
+              let f : Form = fittedForm (readForm s .form) in
+              let same : z ≡ written f (length out) = is-z ∙ ap (λ (h : Form). written h (length out)) (plan .form b) in
+              let refusal : z .refusal ≡ refusalOf f (length out) = ap (λ (w : Written). w .refusal) same in
+              record {
+                refusal = refusal ∙ sym writes;
+                size = ap (λ (w : Written). w .size) same ∙ sym (rw refusal (pick-twice (fine (refusalOf f (length out))) (length (layout f)) 0));
+                buffer = is-last ∙ rw (plan .form b, writes) (sym (pick-twice (fine (refusalOf f (length out))) (sets out 0 (layout f)) out));
+                handed = handed-none _ _ (z .refusal) (y .cycle) (rw refusal (unproved .0)) (rw refusal (unproved .1)) (plan .handed .none (λ q. omega (arith, ap numberOf (sym y-none ∙ q))) (λ q. omega (arith, ap numberOf (sym y-none ∙ q))));
+              }
