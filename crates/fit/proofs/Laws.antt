@@ -1,4 +1,4 @@
--- What the proofs of the fit share: tests, tables filled place by place, the top of a run and what is below it.
+-- What the proofs of the fit share: tables filled place by place, the top of a run and what is below it.
 -- Assumes nothing.
 use mathlib.Core.Path.{_≡_, refl, ap, _∙_}
 use mathlib.Core.List.{List, [], _∷_, _++_, map, append-assoc}
@@ -9,8 +9,6 @@ use native.Mathlib.Omega.{arith}
 use lib.ListN.{length, getD, set, take, replicate, length-map}
 use lib.Seq.{getD-set-same, getD-set-other, set-at}
 use borrow.Author.Count.{below-more}
-use borrow.Author.Needs.{needs}
-use borrow.Author.Tests.{le-ltb, lt-ltb, le-leb, lt-leb, eq-eqb, ne-eqb}
 use Rattle.lists.specs.Span.{span, span-length}
 use Rattle.lists.specs.Fold.{top}
 use Rattle.form.specs.declared.Form.{Form}
@@ -19,9 +17,6 @@ use Rattle.form.specs.Ranges.{WellFormed}
 use Rattle.legal.specs.Loop.{loopOf, pairOf}
 use Rattle.legal.specs.Systems.{lateness}
 use Rattle.fit.specs.Tables.{Limited, turnedOver}
-
--- a definition's tests, settled from what a branch showed
-pub ruleset tests = (needs, le-ltb, lt-ltb, le-leb, lt-leb, eq-eqb, ne-eqb)
 
 -- ---- the limits
 

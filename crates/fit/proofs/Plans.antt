@@ -25,7 +25,6 @@ use Rattle.reader.specs.Reading.{readForm}
 use Rattle.writer.specs.declared.Written.{Written}
 use Rattle.writer.specs.Layout.{layout}
 use Rattle.writer.specs.Writing.{refusalOf, written, bufferAfter}
-use Rattle.record.specs.Held.{Held}
 use Rattle.record.specs.Read.{read-well-formed}
 use Rattle.record.specs.ReadHeld.{read-held}
 use Rattle.system.specs.Rounds.{settledOf}
@@ -36,12 +35,11 @@ use Rattle.legal.specs.Handed.{Handed}
 use Rattle.knots.specs.Found.{KnotFound}
 use Rattle.judge.specs.Early.{read-early}
 use Rattle.fit.specs.declared.Fitting.{Fitting}
-use Rattle.fit.specs.declared.Fitted.{Fitted}
 use Rattle.fit.specs.declared.Plan.{Plan}
 use Rattle.fit.specs.Retimed.{withRetiming, fittedForm, StartsFitted}
 use Rattle.fit.specs.Fitting.{fitOf, fitRecord, fitBuffer, RecordFitted}
 use Rattle.fit.specs.Planned.{Planned}
-use Rattle.fit.specs.Laws.{Told, bare, knot, unfit, units, fits, fit-told, fit-none, fitted-written}
+use Rattle.fit.specs.Laws.{Told, bare, knot, unfit, units, fits, past-knots, fit-told, fit-none, fitted-written}
 
 -- beside a refusal that no cycle proves none is handed over
 handed-none : (g : Loop) (p : Pair) (r : Refusal) (c : Cycle) → numberOf r ≢ 12 → numberOf r ≢ 14 → c ≡ noCycle → Handed g p r c
@@ -82,14 +80,13 @@ module _ (f : Form) where
     }
 
     module _ (l : k .count ≤ 0) (t : Fitting) (s : StartsFitted (loopOf f) (pairOf f) t) where
-      past-knots : fitOf f ≡ pick (settledOf (limits (loopOf f) (pairOf f)) .settled) (unitsOf (loopOf f) (pairOf f)) NoRetiming
-      unfolding fitOf
-      past-knots = pick-false (eqb (f .length) 0) _ _ (ne-eqb _ _ n) ∙ pick-false (knotted (loopOf f)) _ _ (found .free (omega arith))
+      by-limits : fitOf f ≡ pick (settledOf (limits (loopOf f) (pairOf f)) .settled) (unitsOf (loopOf f) (pairOf f)) NoRetiming
+      by-limits = past-knots f n (found .free (omega arith))
 
       pub plan-unfit : t .fits ≡ false → Planned f (record { refusal = NoRetiming; cycle = t .cycle; form = f })
       unfolding fine
       plan-unfit b = record {
-        refusal = sym (past-knots ∙ pick-false _ _ _ (sym (s .fits) ∙ b));
+        refusal = sym (by-limits ∙ pick-false _ _ _ (sym (s .fits) ∙ b));
         form = λ q. both-ways q refl;
         handed = record {
           knot = λ q. let z : _≡_ {A = ℕ} 14 12 = ap numberOf q in absurd (omega arith);
@@ -105,7 +102,7 @@ module _ (f : Form) where
       plan-fits b r is h e =
           let u = units-number (loopOf f) (pairOf f) in
           record {
-            refusal = is ∙ sym (past-knots ∙ pick-true _ _ _ (sym (s .fits) ∙ b));
+            refusal = is ∙ sym (by-limits ∙ pick-true _ _ _ (sym (s .fits) ∙ b));
             form = λ _. e ∙ ap (withRetiming f) (s .retiming b);
             handed = handed-none (loopOf f) (pairOf f) r (t .cycle) (λ q. u .0 (sym (ap numberOf is) ∙ q)) (λ q. u .1 (sym (ap numberOf is) ∙ q)) (s .none b);
           }

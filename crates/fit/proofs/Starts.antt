@@ -8,7 +8,6 @@ use native.Mathlib.Omega.{arith}
 use lib.ListN.{getD, take, replicate}
 use lib.Seq.{getD-take}
 use Rattle.lists.specs.Fold.{top, top-over}
-use Rattle.answer.specs.declared.Cycle.{Cycle}
 use Rattle.form.specs.declared.Form.{Form}
 use Rattle.form.specs.Ranges.{WellFormed}
 use Rattle.system.specs.declared.Settled.{Settled}
@@ -19,7 +18,7 @@ use Rattle.system.specs.Same.{Same, same-settled, same-losing}
 use Rattle.system.specs.Turned.{topOf, turnedAt}
 use Rattle.solve.specs.declared.Solution.{Solution}
 use Rattle.solve.specs.Solved.{Solved}
-use Rattle.legal.specs.Loop.{Loop, Pair, graphOf, loopOf, pairOf}
+use Rattle.legal.specs.Loop.{graphOf, loopOf, pairOf}
 use Rattle.legal.specs.Systems.{limits}
 use Rattle.legal.specs.Shape.{sound-form}
 use Rattle.legal.specs.Fitted.{losing-impossible, depth-bound}

@@ -25,12 +25,12 @@ use Rattle.record.specs.Held.{Held}
 use Rattle.record.specs.Written.{well-formed-written}
 use Rattle.system.specs.Rounds.{settledOf}
 use Rattle.legal.specs.Loop.{Loop, Pair, graphOf, loopOf, pairOf}
-use Rattle.legal.specs.Legal.{UnitRule, Legal, Knot, busy, occupies}
+use Rattle.legal.specs.Legal.{UnitRule, Legal, Knot}
 use Rattle.legal.specs.Systems.{knotted, limits, Fits}
 use Rattle.legal.specs.Judging.{overStep, overClass, unitsOf, judgeOf}
 use Rattle.legal.specs.Shape.{sound-form, placed-form}
 use Rattle.legal.specs.Knots.{Free, knot-knotted, knotted-knot, free-unknotted, unknotted-free}
-use Rattle.legal.specs.Fitted.{Settles, unsettled-unfit, fits-settles}
+use Rattle.legal.specs.Fitted.{Settles, unsettled-unfit}
 use Rattle.legal.specs.Ruled.{LowestOver, over-lowest, over-none, lowest-over, kept-over}
 use Rattle.legal.specs.Judged.{accepts-judge}
 use Rattle.fit.specs.Retimed.{retimings, withRetiming, fittedForm}
@@ -145,6 +145,12 @@ module _ (g : Loop) (p : Pair) where
   of-fits : Told g p None → (p .length ≢ 0) × Free g × Settles g p × UnitRule g p
   of-fits (fits n free s u) = (n, free, s, u)
 
+-- with a schedule and no knot it goes by the limits
+pub past-knots : (f : Form) → f .length ≢ 0 → knotted (loopOf f) ≡ false
+    → fitOf f ≡ pick (settledOf (limits (loopOf f) (pairOf f)) .settled) (unitsOf (loopOf f) (pairOf f)) NoRetiming
+unfolding fitOf
+past-knots f n k = pick-false _ _ _ (ne-eqb _ _ n) ∙ pick-false _ _ _ k
+
 module _ (f : Form) (w : WellFormed f) where
   settles-or-not : (b : Bool) → settledOf (limits (loopOf f) (pairOf f)) .settled ≡ b → f .length ≢ 0 → Free (loopOf f)
       → Told (loopOf f) (pairOf f) (pick b (unitsOf (loopOf f) (pairOf f)) NoRetiming)
@@ -162,11 +168,6 @@ module _ (f : Form) (w : WellFormed f) where
       (λ k. let t = knotted-knot (loopOf f) (sound-form f w) k in knot (eqb-false _ _ n) (t .0) (t .1))
       (λ k. settles-or-not _ refl (eqb-false _ _ n) (unknotted-free (loopOf f) k)))
 
-  -- with a schedule and no knot it goes by the limits
-  past-knots : f .length ≢ 0 → Free (loopOf f) → fitOf f ≡ pick (settledOf (limits (loopOf f) (pairOf f)) .settled) (unitsOf (loopOf f) (pairOf f)) NoRetiming
-  unfolding fitOf
-  past-knots n free = pick-false _ _ _ (ne-eqb _ _ n) ∙ pick-false _ _ _ (free-unknotted (loopOf f) (sound-form f w) free)
-
   unsettled : ((r : ℕ → ℕ) → Fits (loopOf f) (pairOf f) r → ⊥) → settledOf (limits (loopOf f) (pairOf f)) .settled ≡ false
   unsettled none = go (settledOf (limits (loopOf f) (pairOf f)) .settled) refl
     where
@@ -179,9 +180,9 @@ module _ (f : Form) (w : WellFormed f) where
   unfolding fitOf pairOf
   fit-is r (bare z) = pick-true _ _ _ (eq-eqb _ _ z)
   fit-is r (knot n es k) = pick-false _ _ _ (ne-eqb _ _ n) ∙ pick-true _ _ _ (knot-knotted (loopOf f) es k)
-  fit-is r (unfit n free none) = past-knots n free ∙ pick-false _ _ _ (unsettled none)
-  fit-is r (units n free s q c t) = past-knots n free ∙ pick-true _ _ _ s ∙ units-is (loopOf f) (pairOf f) q c t
-  fit-is r (fits n free s u) = past-knots n free ∙ pick-true _ _ _ s ∙ none-is (loopOf f) (pairOf f) u
+  fit-is r (unfit n free none) = past-knots f n (free-unknotted (loopOf f) (sound-form f w) free) ∙ pick-false _ _ _ (unsettled none)
+  fit-is r (units n free s q c t) = past-knots f n (free-unknotted (loopOf f) (sound-form f w) free) ∙ pick-true _ _ _ s ∙ units-is (loopOf f) (pairOf f) q c t
+  fit-is r (fits n free s u) = past-knots f n (free-unknotted (loopOf f) (sound-form f w) free) ∙ pick-true _ _ _ s ∙ none-is (loopOf f) (pairOf f) u
 
   told : (r : Refusal) → fitOf f ≡ r → Told (loopOf f) (pairOf f) r
   told r e = subst (Told (loopOf f) (pairOf f)) e fit-told

@@ -1,18 +1,17 @@
 -- What is read can be held: its numbers fit their types and its tables have their lengths.
 -- Assumes nothing.
-use mathlib.Core.Path.{_≡_, sym, ap, subst}
+use mathlib.Core.Path.{_≡_, sym, subst}
 use mathlib.Core.Bool.{true}
 use mathlib.Core.List.{List}
 use Prim.Native.Nat.{ℕ, _≤_, _<_}
 use native.Mathlib.Decide.{decLt}
 use native.Mathlib.Omega.{arith}
 use Rattle.answer.specs.Refused.{fine}
-use Rattle.form.specs.Places.{noClass, noNode, classOf, nodeOf, edgeOf, startOf, retimingOf}
+use Rattle.form.specs.Places.{noClass, noNode, classOf, nodeOf, edgeOf}
 use Rattle.field.specs.Number.{Bytes}
 use Rattle.reader.specs.declared.Reading.{Reading}
 use Rattle.reader.specs.Reading.{startsRead, readForm}
 use Rattle.record.specs.Held.{HeldClass, HeldNode, HeldEdge, Held}
-use Rattle.record.specs.ReadRows.{Slot}
 use Rattle.record.specs.Sofar.{headClasses, headNodes, headEdges, noEdge, noSlot, slotOf}
 use Rattle.record.specs.ReadAll.{headStarts, StartsSofar}
 use Rattle.record.specs.Read.{read-form, read-whole}

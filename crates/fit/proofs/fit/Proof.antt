@@ -7,13 +7,6 @@ use Rattle.fit.proofs.Plans.{fit-unread, form-good, fit-refused, fit-wr
 use borrow.Author.Needs.{needs}
 use Rattle.fit.proofs.fit.Statement.{statement}
 use Rattle.fit.proofs.fit.Tie as tie
-use Rattle.fit.proofs.fit.Reads as reads
-use Rattle.fit.proofs.fit.Lts as lts
-use Rattle.answer.proofs.Cycle.none.Reads as none-reads
-use Rattle.answer.proofs.Refusal.is_fine.Reads as is-fine-reads
-use Rattle.fit.proofs.plan_of.Reads as plan-of-reads
-use Rattle.reader.proofs.read.Reads as read-reads
-use Rattle.writer.proofs.write.Reads as write-reads
 
 read-requires : tie.Need-read-requires
 read-requires c κs = search needs

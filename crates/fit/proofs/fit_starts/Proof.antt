@@ -1,18 +1,10 @@
 -- `fit::fit_starts` meets its contract: the filled tables are the limits of the starts, solved and turned over.
 -- Assumes nothing.
-use mathlib.Core.Path.{sym, _∙_}
-use native.Mathlib.Omega.{arith}
 use borrow.Author.Tests.{not-true, not-false}
 use Rattle.fit.proofs.Starts.{under-top, filled-joined, top-small, when-fits, when-unfit}
 use borrow.Author.Needs.{needs}
 use Rattle.fit.proofs.fit_starts.Statement.{statement}
 use Rattle.fit.proofs.fit_starts.Tie as tie
-use Rattle.fit.proofs.fit_starts.Reads as reads
-use Rattle.fit.proofs.fit_starts.Lts as lts
-use Rattle.fit.proofs.limits_of.Reads as limits-of-reads
-use Rattle.fit.proofs.top_of.Reads as top-of-reads
-use Rattle.fit.proofs.turned.Reads as turned-reads
-use Rattle.solve.proofs.solve.Reads as solve-reads
 
 limits-of-requires : tie.Need-limits-of-requires
 limits-of-requires c κs = search needs

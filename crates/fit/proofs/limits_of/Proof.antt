@@ -11,10 +11,6 @@ use Rattle.fit.specs.Tables.{Limited}
 use Rattle.fit.proofs.Laws.{Ends, ends-in, limited-none, limited-more, limited-all}
 use Rattle.fit.proofs.limits_of.Statement.{statement}
 use Rattle.fit.proofs.limits_of.Tie as tie
-use Rattle.fit.proofs.limits_of.Reads as reads
-use Rattle.fit.proofs.limits_of.Lts as lts
-use Rattle.fit.proofs.late.Reads as late-reads
-use Rattle.fit.proofs.wide.Reads as wide-reads
 
 abbrev Inv-loop : tie.InvT-loop
 Inv-loop form gains₀ costs₀ edges e₀ gains costs e = (e ≤ edges) × (length gains ≡ 256) × (length costs ≡ 256) × Limited form e gains costs

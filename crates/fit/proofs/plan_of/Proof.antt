@@ -5,13 +5,6 @@ use Rattle.fit.proofs.Plans.{plan-bare, plan-knot, plan-unfit, plan-fit
 use borrow.Author.Needs.{needs}
 use Rattle.fit.proofs.plan_of.Statement.{statement}
 use Rattle.fit.proofs.plan_of.Tie as tie
-use Rattle.fit.proofs.plan_of.Reads as reads
-use Rattle.fit.proofs.plan_of.Lts as lts
-use Rattle.answer.proofs.Cycle.none.Reads as none-reads
-use Rattle.fit.proofs.fit_starts.Reads as fit-starts-reads
-use Rattle.fit.proofs.with_retiming.Reads as with-retiming-reads
-use Rattle.knots.proofs.knot_of.Reads as knot-of-reads
-use Rattle.rules.proofs.crowded.Reads as crowded-reads
 
 none-requires : tie.Need-none-requires
 none-requires c κs = search needs

@@ -10,8 +10,6 @@ use Rattle.lists.specs.Fold.{top}
 use Rattle.fit.proofs.Laws.{top-none, top-more}
 use Rattle.fit.proofs.top_of.Statement.{statement}
 use Rattle.fit.proofs.top_of.Tie as tie
-use Rattle.fit.proofs.top_of.Reads as reads
-use Rattle.fit.proofs.top_of.Lts as lts
 
 abbrev Inv-loop : tie.InvT-loop
 Inv-loop values nodes highest₀ v₀ highest v = (v ≤ nodes) × (highest ≡ top (take v values))

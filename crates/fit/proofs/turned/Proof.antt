@@ -8,8 +8,6 @@ use Rattle.fit.specs.Tables.{turnedOver}
 use Rattle.fit.proofs.Laws.{turned-none, turned-more}
 use Rattle.fit.proofs.turned.Statement.{statement}
 use Rattle.fit.proofs.turned.Tie as tie
-use Rattle.fit.proofs.turned.Reads as reads
-use Rattle.fit.proofs.turned.Lts as lts
 
 abbrev Inv-loop : tie.InvT-loop
 Inv-loop values nodes highest retiming₀ v₀ retiming v = (v ≤ nodes) × (retiming ≡ turnedOver highest values v)

@@ -4,8 +4,6 @@ use borrow.Author.Needs.{needs}
 use Rattle.fit.specs.Retimed.{withRetiming}
 use Rattle.fit.proofs.with_retiming.Statement.{statement}
 use Rattle.fit.proofs.with_retiming.Tie as tie
-use Rattle.fit.proofs.with_retiming.Reads as reads
-use Rattle.fit.proofs.with_retiming.Lts as lts
 
 returns : tie.Need-returns
 unfolding withRetiming
