@@ -1,6 +1,20 @@
 // Fitting a retiming to given starts.
+ghost use mathlib.Core.Logic.{_≢_};
+ghost use mathlib.Core.Path.{_≡_};
+ghost use Prim.Native.Nat.{ℕ, _+_, _≤_, _<_};
+ghost use lib.Dec.{leb};
+ghost use lib.ListN.{getD, take};
+ghost use Rattle.lists.specs.Pick.{pick};
+ghost use Rattle.lists.specs.Fold.{top};
+ghost use Rattle.form.specs.Ranges.{WellFormed};
+ghost use Rattle.legal.specs.Loop.{loopOf, pairOf};
+ghost use Rattle.fit.specs.Tables.{Limited, turnedOver};
+ghost use Rattle.fit.specs.Retimed.{withRetiming, StartsFitted};
+ghost use Rattle.fit.specs.Planned.{Planned};
+ghost use Rattle.fit.specs.Fitting.{RecordFitted};
 use answer::Cycle;
 use answer::Refusal;
+use form::Form;
 
 // The retiming where one fits, all 0 else; the cycle that proves that none does.
 pub struct Fitting {
@@ -14,4 +28,196 @@ pub struct Fitted {
     pub refusal: Refusal,
     pub size: u32,
     pub cycle: Cycle,
+}
+
+// What each edge gains and costs the retimings, in tables that can be lent.
+struct Limits {
+    gains: [u16; 256],
+    costs: [u16; 256],
+}
+
+// A form with its starts fitted, or what is refused of it with its cycle.
+struct Plan {
+    refusal: Refusal,
+    cycle: Cycle,
+    form: Form,
+}
+
+// A byte as a u16; the bound spares each use a proof.
+fn wide(x: u8) -> u16
+    ensures { λ r. ⌜ (r ≡ x) × (r < 256) ⌝ }
+{
+    x as u16
+}
+
+// 0 where a node that starts at `start` is finished when another starts at `next`, else 1.
+fn late(start: u16, latency: u8, next: u16) -> u16
+    ensures { λ r. ⌜ r ≡ pick (leb (start + latency) next) 0 1 ⌝ }
+{
+    if start as u32 + latency as u32 <= next as u32 {
+        return 0;
+    }
+    1
+}
+
+// The delays of the edges, and which of them are late by a body.
+fn limits_of(form: Form) -> Limits
+    requires { ⌜ WellFormed form ⌝ }
+    ensures { λ t. ⌜ Limited form (form .edges) (t .gains) (t .costs) ⌝ }
+{
+    let mut gains = [0u16; 256];
+    let mut costs = [0u16; 256];
+    let edges = form.edges as usize;
+    let mut e: usize = 0;
+    while e < edges {
+        let tail = form.from[e] as usize;
+        let head = form.to[e] as usize;
+        let class = form.class[form.node[tail].class as usize];
+        let delays = wide(form.delays[e]);
+        let cost = late(form.start[tail].0, class.latency, form.start[head].0);
+        gains[e] = delays;
+        costs[e] = cost;
+        e += 1;
+    }
+    Limits { gains, costs }
+}
+
+// The largest of the first values.
+fn top_of(values: &[u32; 64], nodes: u8) -> u32
+    requires { ⌜ nodes ≤ 64 ⌝ }
+    ensures { λ r. ⌜ r ≡ top (take nodes (now (values .entry))) ⌝ }
+{
+    let mut highest: u32 = 0;
+    for v in 0..nodes {
+        let value = values[v as usize];
+        if highest < value {
+            highest = value;
+        }
+    }
+    highest
+}
+
+// How far each of the first values is below the top of them; 0 past them.
+fn turned(values: &[u32; 64], nodes: u8, highest: u32) -> [u8; 64]
+    requires { ⌜ (nodes ≤ 64) × (highest ≤ 63) ⌝ }
+    requires { ⌜ ((v : ℕ) → v < nodes → getD (now values) v 0 ≤ highest) ⌝ }
+    ensures { λ r. ⌜ r ≡ turnedOver highest (now (values .entry)) nodes ⌝ }
+{
+    let mut retiming = [0u8; 64];
+    for v in 0..nodes {
+        let i = v as usize;
+        retiming[i] = (highest - values[i]) as u8;
+    }
+    retiming
+}
+
+// The retiming of least depth that fits the starts, node by node the largest; or a cycle that no retiming can pass.
+pub fn fit_starts(form: Form) -> Fitting
+    requires { ⌜ WellFormed form ⌝ }
+    requires { ⌜ form .length ≢ 0 ⌝ }
+    ensures { λ r. ⌜ StartsFitted (loopOf form) (pairOf form) r ⌝ }
+{
+    let nodes = form.nodes;
+    let limits = limits_of(form);
+    let solution = solve::solve(
+        nodes,
+        form.edges,
+        &form.from,
+        &form.to,
+        &limits.gains,
+        &limits.costs,
+    );
+    let cycle = solution.cycle;
+    if !solution.settled {
+        return Fitting {
+            fits: false,
+            retiming: [0; 64],
+            cycle,
+        };
+    }
+    let highest = top_of(&solution.values, nodes);
+    Fitting {
+        fits: true,
+        retiming: turned(&solution.values, nodes, highest),
+        cycle,
+    }
+}
+
+// The form with another retiming.
+fn with_retiming(mut form: Form, retiming: [u8; 64]) -> Form
+    ensures { λ r. ⌜ r ≡ withRetiming form retiming ⌝ }
+{
+    form.retiming = retiming;
+    form
+}
+
+// What is refused of a form in turn, else the form with the retiming that fits. The unit rule asks the starts alone.
+fn plan_of(form: Form) -> Plan
+    requires { ⌜ WellFormed form ⌝ }
+    ensures { λ r. ⌜ Planned form r ⌝ }
+{
+    if form.length == 0 {
+        return Plan {
+            refusal: Refusal::Bare,
+            cycle: Cycle::none(),
+            form,
+        };
+    }
+    let knot = knots::knot_of(form);
+    if 0 < knot.count {
+        return Plan {
+            refusal: Refusal::Knot,
+            cycle: knot,
+            form,
+        };
+    }
+    let fitting = fit_starts(form);
+    let cycle = fitting.cycle;
+    if !fitting.fits {
+        return Plan {
+            refusal: Refusal::NoRetiming,
+            cycle,
+            form,
+        };
+    }
+    let retiming = fitting.retiming;
+    Plan {
+        refusal: rules::crowded(form),
+        cycle,
+        form: with_retiming(form, retiming),
+    }
+}
+
+// The record with a retiming that fits its starts, into `out`; a refusal leaves `out` as it was.
+pub fn fit(record: &[u8], out: &mut [u8]) -> Fitted
+    ensures { λ r. ⌜ RecordFitted (now («record» .entry)) (now (out .entry)) (now (out .exit)) r ⌝ }
+{
+    let read = reader::read(record);
+    let unread = read.refusal;
+    if !unread.is_fine() {
+        return Fitted {
+            refusal: unread,
+            size: 0,
+            cycle: Cycle::none(),
+        };
+    }
+    let form = read.form;
+    let plan = plan_of(form);
+    let refusal = plan.refusal;
+    let cycle = plan.cycle;
+    if !refusal.is_fine() {
+        return Fitted {
+            refusal,
+            size: 0,
+            cycle,
+        };
+    }
+    let fitted = plan.form;
+    let written = writer::write(fitted, out);
+    let refused = written.refusal;
+    Fitted {
+        refusal: refused,
+        size: written.size,
+        cycle,
+    }
 }

@@ -12,6 +12,7 @@ pub mod Sofar
 pub mod ReadAll
 pub mod Least
 pub mod Read
+pub mod ReadHeld
 pub mod Walks
 pub mod LaidHeader
 pub mod Agree

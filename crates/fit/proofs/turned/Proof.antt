@@ -1,0 +1,71 @@
+-- `fit::turned` meets its contract: the places passed are filled.
+-- Assumes nothing.
+use mathlib.Core.Path.{_≡_}
+use Prim.Native.Nat.{_≤_, _-_}
+use native.Mathlib.Omega.{arith}
+use borrow.Author.Needs.{needs}
+use Rattle.fit.specs.Tables.{turnedOver}
+use Rattle.fit.proofs.Laws.{turned-none, turned-more}
+use Rattle.fit.proofs.turned.Statement.{statement}
+use Rattle.fit.proofs.turned.Tie as tie
+
+abbrev Inv-loop : tie.InvT-loop
+Inv-loop values nodes highest retiming₀ v₀ retiming v = (v ≤ nodes) × (retiming ≡ turnedOver highest values v)
+
+abbrev μ-loop : tie.MeasureT-loop
+μ-loop values nodes highest retiming₀ v₀ retiming v = nodes - v
+
+loop-holds : tie.Need-loop-holds Inv-loop μ-loop
+loop-holds c = (search needs, turned-none _ _)
+
+cast-i : tie.Need-cast-i Inv-loop μ-loop
+cast-i c = search needs
+
+mul-retiming : tie.Need-mul-retiming Inv-loop μ-loop
+mul-retiming c = search needs
+
+element-copy-out-retiming : tie.Need-element-copy-out-retiming Inv-loop μ-loop
+element-copy-out-retiming c = search needs
+
+sub-retiming : tie.Need-sub-retiming Inv-loop μ-loop
+sub-retiming c = omega (arith, c .before .before .before .pre .1 (c .before .before .loop .v) (c .before .loop-test .taken))
+
+cast-retiming : tie.Need-cast-retiming Inv-loop μ-loop
+cast-retiming c = search needs
+
+array-write-retiming : tie.Need-array-write-retiming Inv-loop μ-loop
+array-write-retiming c = search needs
+
+add-v : tie.Need-add-v Inv-loop μ-loop
+add-v c = search needs
+
+loop-less : tie.Need-loop-less Inv-loop μ-loop
+loop-less c = search needs
+
+loop-again : tie.Need-loop-again Inv-loop μ-loop
+loop-again c =
+    let l = c .before .before in
+    (search needs, turned-more _ _ (l .loop .v) _ (omega arith) (l .loop .inv .1))
+
+returns : tie.Need-returns Inv-loop μ-loop
+returns c =
+    let e : c .before .loop .v ≡ c .before .before .args .nodes = omega arith in
+    rw (← e) (c .before .loop .inv .1)
+
+pub turned-spec : {M : Type 1} → statement M
+turned-spec =
+    tie.close
+    (tie.spec
+    Inv-loop
+    μ-loop
+    loop-holds
+    cast-i
+    mul-retiming
+    element-copy-out-retiming
+    sub-retiming
+    cast-retiming
+    array-write-retiming
+    add-v
+    loop-less
+    loop-again
+    returns)

@@ -1,0 +1,103 @@
+-- The retiming found as a list: it fits, is of least depth and node by node the largest of those.
+-- Assumes nothing.
+use mathlib.Core.Path.{_≡_, ap, _∙_}
+use mathlib.Core.List.{List, map}
+use Prim.Native.Nat.{ℕ, zero, suc, _+_, _-_, _≤_, _<_}
+use native.Mathlib.Decide.{decLt}
+use native.Mathlib.Nat.{add-zero, add-suc, suc-add, zero-add, not-suc-le-zero, le-of-suc-le-suc}
+use native.Mathlib.Omega.{arith}
+use lib.ListN.{length, getD, length-map, length-append, length-replicate, List·getD-append}
+use lib.Seq.{getD-append-add}
+use Rattle.lists.specs.Span.{span, span-length}
+use Rattle.lists.specs.Fold.{top, top-over, top-attained}
+use Rattle.lists.specs.Place.{zeros-at}
+use Rattle.legal.specs.Loop.{Loop, Pair}
+use Rattle.legal.specs.Legal.{UnitRule, Legal, busy, occupies}
+use Rattle.legal.specs.Systems.{lateness, Fits}
+use Rattle.legal.specs.Shape.{Sound, Bodied}
+use Rattle.legal.specs.Limits.{fit-edges}
+use Rattle.legal.specs.Fitted.{depth, fitted, Settles, fitted-fits, depth-bound, fitted-depth, fitted-zero, fitted-top, fits-depth, fits-under}
+use Rattle.fit.specs.Retimed.{retimings}
+
+mapped-at : (f : ℕ → ℕ) (a n i : ℕ) → i < n → getD (map f (span a n)) i 0 ≡ f (a + i)
+unfolding span
+mapped-at f a zero i l = absurd (not-suc-le-zero l)
+mapped-at f a (suc n) zero l = rw add-zero
+mapped-at f a (suc n) (suc i) l = rw (add-suc, ← suc-add) (mapped-at f (suc a) n i (le-of-suc-le-suc l))
+
+module _ (g : Loop) (p : Pair) where
+  front-length : length (map (fitted g p) (span 0 (g .graph .nodes))) ≡ g .graph .nodes
+  front-length = length-map (span 0 (g .graph .nodes)) (fitted g p) ∙ span-length 0 (g .graph .nodes)
+
+  pub retimings-length : g .graph .nodes ≤ 64 → length (retimings g p) ≡ 64
+  unfolding retimings
+  retimings-length n =
+      let z : ℕ = 0 in
+      rw length-append (omega (arith, front-length, length-replicate (64 - g .graph .nodes) z))
+
+  -- each node has what was found for it
+  pub retimings-at : (v : ℕ) → v < g .graph .nodes → getD (retimings g p) v 0 ≡ fitted g p v
+  unfolding retimings
+  retimings-at v l =
+      List·getD-append (map (fitted g p) (span 0 (g .graph .nodes))) _ 0 v (omega (arith, front-length)) ∙ mapped-at (fitted g p) 0 (g .graph .nodes) v l ∙ rw zero-add
+
+  -- and the places past them 0
+  pub retimings-past : (v : ℕ) → g .graph .nodes ≤ v → _≡_ {A = ℕ} (getD (retimings g p) v 0) 0
+  unfolding retimings
+  retimings-past v l =
+      let front : List ℕ = map (fitted g p) (span 0 (g .graph .nodes)) in
+      let e : v ≡ length front + (v - g .graph .nodes) = omega (arith, front-length) in
+      ap (λ (k : ℕ). getD (retimings g p) k 0) e ∙ getD-append-add front _ (v - g .graph .nodes) 0 ∙ zeros-at (64 - g .graph .nodes) (v - g .graph .nodes)
+
+  -- the starts with that retiming
+  abbrev pub retimedPair : Pair
+  retimedPair = record { start = p .start; length = p .length; retiming = λ v. getD (retimings g p) v 0 }
+
+  module _ (s : Sound g) (q : Settles g p) where
+    under-depth : (v : ℕ) → getD (retimings g p) v 0 ≤ depth g p
+    under-depth v =
+        elim (decLt v (g .graph .nodes)) [
+          | yes l ↦ omega (arith, retimings-at v l, fitted-depth g p s q v)
+          | no l ↦ omega (arith, retimings-past v (omega arith))
+        ]
+
+    -- the largest of them is the depth
+    pub retimings-top : top (retimings g p) ≡ depth g p
+    retimings-top =
+        let t = fitted-top g p s q in
+        let a = top-attained (retimings g p) (omega (arith, retimings-length (s .few))) in
+        omega (arith, t .2, retimings-at (t .0) (t .1), top-over (retimings g p) (t .0), a .2, under-depth (a .0))
+
+    -- none is above 63
+    pub retimings-small : (v : ℕ) → getD (retimings g p) v 0 ≤ 63
+    retimings-small v = omega (arith, under-depth v, depth-bound g p s q)
+
+    -- the smallest is 0
+    pub retimings-zero : (v : ℕ) × (v < g .graph .nodes) × _≡_ {A = ℕ} (getD (retimings g p) v 0) 0
+    retimings-zero = let z = fitted-zero g p s q in (z .0, z .1, retimings-at (z .0) (z .1) ∙ z .2)
+
+    -- it fits the starts
+    pub retimings-fit : Fits g p (λ v. getD (retimings g p) v 0)
+    retimings-fit e l =
+        omega (arith, fitted-fits g p s q e l, retimings-at (g .graph .head e) (s .joined .heads e l), retimings-at (g .graph .tail e) (s .joined .tails e l))
+
+    -- nothing that fits is less deep
+    pub retimings-least : (r : ℕ → ℕ) (d : ℕ) → Fits g p r → ((v : ℕ) → v < g .graph .nodes → r v ≤ d) → top (retimings g p) ≤ d
+    retimings-least r d h under = omega (arith, retimings-top, fits-depth g p s r d h under)
+
+    -- and of what is no deeper nothing is larger at any node
+    pub retimings-largest : (r : ℕ → ℕ) → Fits g p r → ((v : ℕ) → v < g .graph .nodes → r v ≤ top (retimings g p)) → (v : ℕ) → v < g .graph .nodes → r v ≤ getD (retimings g p) v 0
+    retimings-largest r h under v l = omega (arith, retimings-at v l, fits-under g p s r (top (retimings g p)) h under retimings-top v l)
+
+    -- starts in the body that keep the unit rule are legal with it
+    pub retimings-legal : Bodied g p → UnitRule g p → Legal g retimedPair
+    unfolding lateness busy occupies
+    retimings-legal b units =
+        let body : Bodied g retimedPair = λ v l. record { begins = b v l .begins; ends = b v l .ends } in
+        record {
+          body = body;
+          retimings = λ v l. retimings-small v;
+          least = retimings-zero;
+          edges = fit-edges g retimedPair s body retimings-fit;
+          units = units;
+        }
