@@ -1,2 +1,2 @@
 pub mod Rewrite
-pub mod Judge
+pub mod Answered

@@ -3,7 +3,7 @@ ghost use mathlib.Core.Path.{_≡_};
 ghost use lib.ListN.{length};
 ghost use Rattle.answer.specs.Refused.{numberOf};
 ghost use Rattle.rsk_c.specs.Rewrite.{rewritten, rewrittenOut, rewrittenAnswer};
-ghost use Rattle.rsk_c.specs.Judge.{JudgeAnswered};
+ghost use Rattle.rsk_c.specs.Answered.{JudgeAnswered, FitAnswered};
 use answer::Cycle;
 
 // The record read and written again; its size.
@@ -38,4 +38,20 @@ pub extern "C" fn rsk_judge(record: &[u8], answer: &mut [u32; 69]) -> u32
     let refusal = judged.refusal;
     let cycle = judged.cycle;
     answer::fill(answer, refusal, answer::numbers_of(0, 0, 0), cycle)
+}
+
+// The record with its retiming fitted afresh; its size.
+#[no_mangle]
+pub extern "C" fn rsk_fit(record: &[u8], out: &mut [u8], answer: &mut [u32; 69]) -> u32
+    ensures { λ r. ⌜ FitAnswered (now («record» .entry)) (now (out .entry)) (now (out .exit)) r (now (answer .exit)) ⌝ }
+{
+    let fitted = fit::fit(record, out);
+    let refusal = fitted.refusal;
+    let cycle = fitted.cycle;
+    answer::fill(
+        answer,
+        refusal,
+        answer::numbers_of(fitted.size, 0, 0),
+        cycle,
+    )
 }

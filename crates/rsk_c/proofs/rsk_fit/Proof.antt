@@ -1,0 +1,31 @@
+-- `rsk_c::rsk_fit` meets its contract: the list is that of the fit's answer.
+-- Assumes nothing.
+use Rattle.rsk_c.proofs.Filled.{filled}
+use borrow.Author.Needs.{needs}
+use Rattle.rsk_c.proofs.rsk_fit.Statement.{statement}
+use Rattle.rsk_c.proofs.rsk_fit.Tie as tie
+use Rattle.rsk_c.proofs.rsk_fit.Reads as reads
+use Rattle.rsk_c.proofs.rsk_fit.Lts as lts
+use Rattle.answer.proofs.fill.Reads as fill-reads
+use Rattle.answer.proofs.numbers_of.Reads as numbers-of-reads
+use Rattle.fit.proofs.fit.Reads as fit-reads
+
+fit-requires : tie.Need-fit-requires
+fit-requires c κs = search needs
+
+numbers-of-requires : tie.Need-numbers-of-requires
+numbers-of-requires c κs = search needs
+
+fill-requires : tie.Need-fill-requires
+fill-requires c κs = search needs
+
+same-length : tie.Need-same-length
+same-length c = search needs
+
+returns : tie.Need-returns
+returns c =
+    filled _ _ _ _ _ _ _ _ _ (c .before .before .before .before .before .before .fit .ensures) (c .before .numbers-of .ensures) (c .fill .ensures .0) (c .fill .ensures .1)
+
+pub rsk-fit-spec : {M : Type 1} → statement M
+rsk-fit-spec =
+    tie.close (tie.spec fit-requires numbers-of-requires fill-requires same-length returns)

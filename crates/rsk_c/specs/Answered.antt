@@ -1,0 +1,29 @@
+-- What an exported function leaves: the number and the list of an answer of the library that meets its contract.
+-- Assumes nothing.
+use mathlib.Core.Path.{_≡_}
+use mathlib.Core.List.{List}
+use Prim.Native.Nat.{ℕ}
+use Rattle.answer.specs.Refused.{numberOf, details}
+use Rattle.answer.specs.Outcome.{answerList}
+use Rattle.answer.specs.declared.Refusal.{Refusal}
+use Rattle.answer.specs.declared.Details.{Details}
+use Rattle.answer.specs.declared.Cycle.{Cycle}
+use Rattle.judge.specs.declared.Judged.{Judged}
+use Rattle.judge.specs.Judgement.{RecordJudgement}
+use Rattle.fit.specs.declared.Fitted.{Fitted}
+use Rattle.fit.specs.Fitting.{RecordFitted}
+
+-- of an answer of type A: its contract, its refusal, its numbers and its cycle
+pub record Answered (A : Type 0) (meets : A → Type 0) (refused : A → Refusal) (numbers : A → Details) (cycle : A → Cycle) (number : ℕ) (list : List ℕ) : Type 0 where
+  pub given : A
+  pub met : meets given
+  pub number-is : number ≡ numberOf (refused given)
+  pub list-is : list ≡ answerList (refused given) (numbers given) (cycle given)
+
+-- a record judged: no numbers
+abbrev pub JudgeAnswered : List ℕ → ℕ → List ℕ → Type 0
+JudgeAnswered s = Answered Judged (RecordJudgement s) (λ j. j .refusal) (λ j. details 0 0 0) (λ j. j .cycle)
+
+-- a record fitted: its size
+abbrev pub FitAnswered : List ℕ → List ℕ → List ℕ → ℕ → List ℕ → Type 0
+FitAnswered s out after = Answered Fitted (RecordFitted s out after) (λ f. f .refusal) (λ f. details (f .size) 0 0) (λ f. f .cycle)
