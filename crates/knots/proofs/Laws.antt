@@ -36,50 +36,53 @@ ones-at zero e l = absurd (omega arith)
 ones-at (suc n) zero l = refl
 ones-at (suc n) (suc e) l = ones-at n e (omega arith)
 
-module _ (f : Form) (w : WellFormed f) (gs : List ℕ) where
-  -- the system that the tables hold
-  abbrev pub held : System
-  held = systemOf (f .nodes) (f .edges) (f .from) (f .to) gs (replicate 256 1)
+-- the system that the tables hold
+abbrev held : Form → List ℕ → List ℕ → System
+held f gs cs = systemOf (f .nodes) (f .edges) (f .from) (f .to) gs cs
 
-  pub held-joined : Joined (held .graph)
-  unfolding systemOf graphOf
-  held-joined = joined-form f w
+pub held-joined : (f : Form) → WellFormed f → (gs cs : List ℕ) → Joined (held f gs cs .graph)
+unfolding systemOf graphOf
+held-joined f w gs cs = joined-form f w
 
-  module _ (gained : (e : ℕ) → e < f .edges → getD gs e 0 ≡ 64 * getD (f .delays) e 0) where
-    -- it is the loop's system of knots
-    held-knots : Same held (knots (loopOf f))
-    unfolding systemOf knots loopOf graphOf
-    held-knots = record {
-      nodes = refl;
-      edges = refl;
-      tail = λ e l. refl;
-      head = λ e l. refl;
-      gain = gained;
-      cost = λ e l. ones-at 256 e (omega (arith, w .edges));
-    }
+module _ (f : Form) (w : WellFormed f) (gs : List ℕ) (gained : (e : ℕ) → e < f .edges → getD gs e 0 ≡ 64 * getD (f .delays) e 0) where
+  -- each edge costs 1
+  abbrev priced : System
+  priced = held f gs (replicate 256 1)
 
-    -- its answer is a knot, or that there is none
-    pub knot-found : (r : Solution) → Solved held r → KnotFound (loopOf f) (r .cycle)
-    unfolding knotted systemOf
-    knot-found r t = go (r .settled) refl
-      where
-        unknotted : (b : Bool) → r .settled ≡ b → knotted (loopOf f) ≡ not b
-        unknotted b e = ap not (ap (λ (x : Settled). x .settled) (sym (same-settled held (knots (loopOf f)) held-knots)) ∙ sym (t .settled) ∙ e)
+  -- that is the loop's system of knots
+  held-knots : Same priced (knots (loopOf f))
+  unfolding systemOf knots loopOf graphOf
+  held-knots = record {
+    nodes = refl;
+    edges = refl;
+    tail = λ e l. refl;
+    head = λ e l. refl;
+    gain = gained;
+    cost = λ e l. ones-at 256 e (omega (arith, w .edges));
+  }
 
-        go : (b : Bool) → r .settled ≡ b → KnotFound (loopOf f) (r .cycle)
-        go true e = record {
-          free = λ z. unknotted true e;
-          none = λ z. t .none e;
-          tied = λ p. absurd (omega (arith, p, ap (λ (c : Cycle). c .count) (t .none e)));
-          knot = λ p. absurd (omega (arith, p, ap (λ (c : Cycle). c .count) (t .none e)));
-          few = omega (arith, t .few, w .nodes);
-          filled = t .filled;
-        }
-        go false e = record {
-          free = λ z. absurd (omega (arith, z, t .some e));
-          none = λ z. absurd (omega (arith, z, t .some e));
-          tied = λ p. unknotted false e;
-          knot = λ p. losing-knot (loopOf f) (sound-form f w) _ (same-losing held (knots (loopOf f)) held-knots _ (t .shortest e .losing));
-          few = omega (arith, t .few, w .nodes);
-          filled = t .filled;
-        }
+  -- its answer is a knot, or that there is none
+  pub knot-found : (r : Solution) → Solved priced r → KnotFound (loopOf f) (r .cycle)
+  unfolding knotted systemOf
+  knot-found r t = go (r .settled) refl
+    where
+      unknotted : (b : Bool) → r .settled ≡ b → knotted (loopOf f) ≡ not b
+      unknotted b e = ap not (ap (λ (x : Settled). x .settled) (sym (same-settled priced (knots (loopOf f)) held-knots)) ∙ sym (t .settled) ∙ e)
+
+      go : (b : Bool) → r .settled ≡ b → KnotFound (loopOf f) (r .cycle)
+      go true e = record {
+        free = λ z. unknotted true e;
+        none = λ z. t .none e;
+        tied = λ p. absurd (omega (arith, p, ap (λ (c : Cycle). c .count) (t .none e)));
+        knot = λ p. absurd (omega (arith, p, ap (λ (c : Cycle). c .count) (t .none e)));
+        few = omega (arith, t .few, w .nodes);
+        filled = t .filled;
+      }
+      go false e = record {
+        free = λ z. absurd (omega (arith, z, t .some e));
+        none = λ z. absurd (omega (arith, z, t .some e));
+        tied = λ p. unknotted false e;
+        knot = λ p. losing-knot (loopOf f) (sound-form f w) _ (same-losing priced (knots (loopOf f)) held-knots _ (t .shortest e .losing));
+        few = omega (arith, t .few, w .nodes);
+        filled = t .filled;
+      }

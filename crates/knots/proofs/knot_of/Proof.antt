@@ -11,7 +11,7 @@ gains-of-requires c κs = search needs
 solve-requires : tie.Need-solve-requires
 solve-requires c κs =
     let w = c .before .before .before .before .before .before .before .before .pre in
-    ((w .nodes .0, w .nodes .1, w .edges), held-joined _ w _)
+    ((w .nodes .0, w .nodes .1, w .edges), held-joined _ w _ _)
 
 returns : tie.Need-returns
 returns c =
