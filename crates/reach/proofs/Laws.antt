@@ -2,28 +2,29 @@
 -- Assumes nothing.
 use mathlib.Core.Path.{_≡_, refl, sym, _∙_, ap, subst}
 use mathlib.Core.Bool.{Bool, true, false, _&&_, not}
-use mathlib.Core.List.{List}
+use mathlib.Core.List.{List, [], _∷_, _++_, map, append-assoc}
 use mathlib.Core.Logic.{⊎-elim}
 use Prim.Native.Nat.{ℕ, zero, suc, _+_, _-_, _≤_, _<_}
 use native.Mathlib.Omega.{arith}
 use native.Mathlib.Numerals.{add-one}
-use native.Mathlib.Nat.{sub-zero, zero-add, add-zero, ne-of-lt, not-suc-le-zero, le-of-suc-le-suc, eq-or-lt-of-le}
+use native.Mathlib.Nat.{sub-zero, zero-add, add-zero, add-suc, suc-add, ne-of-lt, not-suc-le-zero, le-of-suc-le-suc, eq-or-lt-of-le}
 use lib.Dec.{eqb}
-use lib.ListN.{length, getD, set}
-use lib.Seq.{set-getD, getD-set-same, getD-set-other}
+use lib.ListN.{length, getD, set, replicate, length-map}
+use lib.Seq.{set-at, set-getD, getD-set-same, getD-set-other}
 use borrow.Author.Count.{below-more}
 use borrow.Author.Needs.{needs}
 use borrow.Author.Tests.{eqb-true, eq-eqb, ne-eqb}
 use Rattle.lists.specs.Pick.{pick, pick-true, pick-false, both-ways}
-use Rattle.lists.specs.Span.{span}
+use Rattle.lists.specs.Span.{span, span-length}
 use Rattle.lists.specs.Fold.{fold, count, count-snoc}
 use Rattle.lists.specs.Place.{set-view}
 use Rattle.form.specs.declared.Form.{Form}
 use Rattle.form.specs.Places.{retimingOf}
+use Rattle.form.specs.Ranges.{WellFormed}
 use Rattle.legal.specs.Loop.{Loop, graphOf, loopOf}
-use Rattle.reach.specs.Weight.{tight, spread, sweep, reach}
-use Rattle.reach.specs.Tables.{marksNew, marked, Tells, Swept}
-use Rattle.reach.specs.Reached.{Marked, reach-still}
+use Rattle.reach.specs.Weight.{tight, spread, sweep, reach, reachedFrom, weight}
+use Rattle.reach.specs.Tables.{marksNew, marked, Inside, Tells, Swept, weightsOf}
+use Rattle.reach.specs.Reached.{Marked, only, reach-still}
 
 -- a definition's tests, settled from what a branch showed
 pub ruleset tests = (needs, eq-eqb, ne-eqb)
@@ -112,23 +113,26 @@ module _ (m : List ℕ) where
 
   pub marked-in : (v : ℕ) → getD m v 0 ≡ 1 → marked m (v + 1) ≡ marked m v + 1
   unfolding marked pick
-  marked-in v e = rw (add-one, count-snoc, zero-add, eq-eqb _ _ e)
+  marked-in v e = rw (add-one v, count-snoc, zero-add, eq-eqb _ _ e)
 
   pub marked-out : (v : ℕ) → (getD m v 0 ≡ 1 → ⊥) → marked m (v + 1) ≡ marked m v
   unfolding marked pick
-  marked-out v e = rw (add-one, count-snoc, zero-add, ne-eqb _ _ e, add-zero)
+  marked-out v e = rw (add-one v, count-snoc, zero-add, ne-eqb _ _ e, add-zero)
 
   marked-le : (n : ℕ) → marked m n ≤ marked m (suc n)
   unfolding marked
   marked-le n = rw count-snoc (omega arith)
 
   -- a mark among the first n counts
-  pub marked-some : (n v : ℕ) → v < n → Marked m v → 1 ≤ marked m n
+  marked-some : (n v : ℕ) → v < n → Marked m v → 1 ≤ marked m n
   marked-some zero v l h = absurd (not-suc-le-zero l)
   marked-some (suc n) v l h =
       ⊎-elim (λ q. subst (λ (k : ℕ). 1 ≤ marked m k) (add-one n) (omega (arith, marked-in n (subst (λ (k : ℕ). Marked m k) q h))))
       (λ q. omega (arith, marked-le n, marked-some n v q h))
       (eq-or-lt-of-le (le-of-suc-le-suc l))
+
+  pub some-counted : (n v w : ℕ) → v < n → Marked m v → w ≡ marked m n → 1 ≤ w
+  some-counted n v w l h e = rw e (marked-some n v l h)
 
 -- ---- sweeps that are left
 
@@ -145,6 +149,10 @@ module _ (g : Loop) (r : ℕ → ℕ) where
 
   pub reach-last : (left : ℕ) (m m₁ : List ℕ) → m₁ ≡ sweep g r m → m₁ ≡ m → m₁ ≡ reach g r left m
   reach-last left m m₁ e f = f ∙ sym (reach-still g r left m (sym e ∙ f))
+
+  pub weight-is : (v n w : ℕ) (m : List ℕ) → g .graph .nodes ≡ n → m ≡ reach g r n (only v) → w ≡ marked m n → w - 1 ≡ weight g r v
+  unfolding weight reachedFrom marked
+  weight-is v n w m e f h = rw (h, f, ← e)
 
 -- ---- the tight edges
 
@@ -170,3 +178,44 @@ tights-more f ts e a l is-a all =
     below-more (λ k. tight (loopOf f) (retimingOf f) k ≡ eqb (getD (set ts e a) k 0) 1) e
     (λ k h. all k h ∙ ap (λ (x : ℕ). eqb x 1) (sym (getD-set-other ts e k a 0 (ne-of-lt h))))
     (is-one _ ∙ ap (λ (x : ℕ). eqb x 1) (sym (getD-set-same ts e a 0 l ∙ is-a)))
+
+-- ---- a table that is filled up to place v, and 0 from there on
+
+unfoldable pub filled : (ℕ → ℕ) → ℕ → List ℕ
+filled f v = map f (span 0 v) ++ replicate (64 - v) 0
+
+map-snoc : (f : ℕ → ℕ) (a n : ℕ) → map f (span a (suc n)) ≡ map f (span a n) ++ (f (a + n) ∷ [])
+unfolding span
+map-snoc f a zero = rw add-zero
+map-snoc f a (suc n) = ap (λ xs. f a ∷ xs) (rw (add-suc, ← suc-add) (map-snoc f (suc a) n))
+
+module _ (f : ℕ → ℕ) where
+  pub filled-none : replicate 64 0 ≡ filled f 0
+  unfolding filled span
+  filled-none = refl
+
+  pub filled-more : (v a : ℕ) (xs : List ℕ) → v < 64 → a ≡ f v → xs ≡ filled f v → set xs v a ≡ filled f (v + 1)
+  unfolding filled
+  filled-more v a xs l is-a is-xs =
+      let more : 64 - v ≡ suc (64 - suc v) = omega arith in
+      let here : length (map f (span 0 v)) ≡ v = length-map (span 0 v) f ∙ span-length 0 v in
+      rw (is-xs, more, set-at (map f (span 0 v)) 0 (replicate (64 - suc v) 0) a v here, add-one v, map-snoc, zero-add, append-assoc, is-a)
+
+-- ---- a form's tables
+
+module _ (f : Form) where
+  pub inside-form : WellFormed f → Inside (f .edges) (f .from) (f .to)
+  inside-form w = record {
+    few = w .edges;
+    tail-in = λ e l. omega (arith, w .nodes, w .edge e l .from);
+    head-in = λ e l. omega (arith, w .nodes, w .edge e l .to);
+  }
+
+  pub weight-form : (v w : ℕ) (ts : List ℕ) → ((e : ℕ) → e < f .edges → tight (loopOf f) (retimingOf f) e ≡ eqb (getD ts e 0) 1)
+      → ((g : Loop) (r : ℕ → ℕ) → g .graph .nodes ≡ f .nodes → Tells g r (f .edges) (f .from) (f .to) ts → w ≡ weight g r v) → w ≡ weight (loopOf f) (retimingOf f) v
+  unfolding loopOf graphOf
+  weight-form v w ts h all = all (loopOf f) (retimingOf f) refl (record { all = refl; is-tail = λ e l. refl; is-head = λ e l. refl; is-tight = h })
+
+  pub weights-form : (v : ℕ) (xs : List ℕ) → v ≡ f .nodes → xs ≡ filled (weight (loopOf f) (retimingOf f)) v → xs ≡ weightsOf (loopOf f) (retimingOf f)
+  unfolding filled weightsOf loopOf graphOf
+  weights-form v xs e h = h ∙ rw e
