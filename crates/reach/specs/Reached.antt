@@ -93,3 +93,71 @@ module _ (g : Loop) (r : ℕ → ℕ) where
   unfolding reach
   reach-still zero m e = refl
   reach-still (suc k) m e = ap (reach g r k) e ∙ reach-still k m e
+
+  -- ---- marked, so there is a walk
+
+  -- every marked node is reached from v
+  abbrev AllReached : ℕ → List ℕ → Type 0
+  AllReached v m = (u : ℕ) → Marked m u → (es : List ℕ) × TightWalk v es u
+
+  only-reached : (v : ℕ) → AllReached v (only v)
+  only-reached v u h =
+      ⊎-elim (λ w. ([], record { walk = sym (w .0); all-tight = λ i l. absurd (not-suc-le-zero l) })) (λ w. absurd (omega (arith, w, h, zeros-at 64 u)))
+      (set-view (replicate 64 0) v 1 u)
+
+  -- one tight edge more at the end of a walk
+  walk-on : (v e : ℕ) (es : List ℕ) → e < g .graph .edges → tight g r e ≡ true → TightWalk v es (g .graph .tail e) → TightWalk v (es ++ (e ∷ [])) (g .graph .head e)
+  walk-on v e es l t w = record {
+    walk = walk-join (g .graph) v es (g .graph .tail e) (e ∷ []) (g .graph .head e) (w .walk) (l, refl, refl);
+    all-tight = all-snoc (λ a. tight g r a ≡ true) es e (w .all-tight) t;
+  }
+
+  spread-reached : (v : ℕ) (m : List ℕ) (e : ℕ) → e < g .graph .edges → AllReached v m → AllReached v (spread g r m e)
+  spread-reached v m e l all u h =
+      ⊎-elim (all u)
+      (λ w. let p = all (g .graph .tail e) (w .1) in
+      (p .0 ++ (e ∷ []), subst (λ (a : ℕ). TightWalk v (p .0 ++ (e ∷ [])) a) (sym (w .2)) (walk-on v e (p .0) l (w .0) (p .1))))
+      (spread-from m e u h)
+
+  pub reached-walk : (k v u : ℕ) → Marked (reach g r k (only v)) u → (es : List ℕ) × TightWalk v es u
+  reached-walk k v u h = reach-keeps (AllReached v) (spread-reached v) k (only v) (only-reached v) u h
+
+  -- ---- a walk, so marked
+
+  module _ (m : List ℕ) (e : ℕ) (t : tight g r e ≡ true) (size : g .graph .head e < length m) (h : Marked m (g .graph .tail e)) where
+    some-mark : (n : ℕ) → n ≤ g .graph .edges → e < n → Marked (fold (spread g r) m (span 0 n)) (g .graph .head e)
+    some-mark zero l q = absurd (not-suc-le-zero q)
+    some-mark (suc n) l q =
+        rw (fold-snoc, zero-add)
+        (⊎-elim
+        (λ same. subst (λ (a : ℕ). Marked (spread g r (fold (spread g r) m (span 0 n)) a) (g .graph .head e)) same
+        (spread-marks (fold (spread g r) m (span 0 n)) e t
+        (some-keep (λ x. g .graph .head e < length x) (λ x a _ p. omega (arith, spread-length x a)) m size n (omega arith))
+        (some-keep (λ x. Marked x (g .graph .tail e)) (λ x a _ p. spread-keeps x a (g .graph .tail e) p) m h n (omega arith))))
+        (λ less. spread-keeps (fold (spread g r) m (span 0 n)) n (g .graph .head e) (some-mark n (omega arith) less))
+        (eq-or-lt-of-le (le-of-suc-le-suc q)))
+
+    -- an edge of the sweep marks its head
+    sweep-marks : e < g .graph .edges → Marked (sweep g r m) (g .graph .head e)
+    unfolding sweep
+    sweep-marks l = some-mark (g .graph .edges) (omega arith) l
+
+  module _ (j : Joined (g .graph)) (few : g .graph .nodes ≤ 64) where
+    along-reached : (k : ℕ) (m : List ℕ) (v : ℕ) (es : List ℕ) (u : ℕ) → length m ≡ 64 → Marked m v → length es ≤ k → Walk (g .graph) v es u
+        → ((i : ℕ) → i < length es → tight g r (getD es i 0) ≡ true) → Marked (reach g r k m) u
+    unfolding reach
+    along-reached k m v [] u size h l w t =
+        reach-keeps (λ x. Marked x u) (λ x a _ p. spread-keeps x a u p) k m (subst (λ (a : ℕ). Marked m a) w h)
+    along-reached zero m v (e ∷ es) u size h l w t = absurd (not-suc-le-zero l)
+    along-reached (suc k) m v (e ∷ es) u size h l w t =
+        along-reached k (sweep g r m) (g .graph .head e) es u
+        (sweep-keeps (λ x. length x ≡ 64) (λ x a _ p. spread-length x a ∙ p) m size)
+        (sweep-marks m e (t 0 (omega arith)) (omega (arith, j .heads e (w .0))) (subst (λ (a : ℕ). Marked m a) (sym (w .1)) h) (w .0))
+        (le-of-suc-le-suc l)
+        (w .2)
+        (λ i q. t (suc i) (omega arith))
+
+    pub walk-reached : (k v : ℕ) (es : List ℕ) (u : ℕ) → v < 64 → length es ≤ k → TightWalk v es u → Marked (reach g r k (only v)) u
+    walk-reached k v es u inside l w =
+        along-reached k (only v) v es u (length-set (replicate 64 0) v 1 ∙ length-replicate {A = ℕ} 64 0)
+        (getD-set-same (replicate 64 0) v 1 0 (omega (arith, length-replicate {A = ℕ} 64 0))) l (w .walk) (w .all-tight)
