@@ -1,1 +1,3 @@
 pub mod Weight
+pub mod Tables
+pub mod Reached

@@ -1,0 +1,97 @@
+-- `reach::tights_of` meets its contract: the places passed are filled.
+-- Assumes nothing.
+use mathlib.Core.Path.{_≡_}
+use Prim.Native.Nat.{ℕ, _≤_, _<_, _-_}
+use native.Mathlib.Nat.{not-suc-le-zero}
+use native.Mathlib.Omega.{arith}
+use lib.Dec.{eqb}
+use lib.ListN.{length, getD}
+use borrow.Author.Needs.{needs}
+use Rattle.form.specs.Places.{retimingOf}
+use Rattle.legal.specs.Loop.{loopOf}
+use Rattle.reach.specs.Weight.{tight}
+use Rattle.reach.proofs.Laws.{tights-more}
+use Rattle.reach.proofs.tights_of.Statement.{statement}
+use Rattle.reach.proofs.tights_of.Tie as tie
+
+abbrev Inv-loop : tie.InvT-loop
+Inv-loop form tights₀ e₀ tights e =
+    (e ≤ form .edges) × (length tights ≡ 256) × ((k : ℕ) → k < e → tight (loopOf form) (retimingOf form) k ≡ eqb (getD tights k 0) 1)
+
+abbrev μ-loop : tie.MeasureT-loop
+μ-loop form tights₀ e₀ tights e = form .edges - e
+
+ends : (c : tie.In-loop Inv-loop μ-loop) → (getD (c .before .before .args .t1 .from) (c .before .loop .e) 0 < 64) × (getD (c .before .before .args .t1 .to) (c .before .loop .e) 0 < 64)
+ends c =
+    let w = c .before .before .pre in
+    let g = w .edge (c .before .loop .e) (omega arith) in
+    (omega arith, omega arith)
+
+loop-holds : tie.Need-loop-holds Inv-loop μ-loop
+loop-holds c = (search needs, search needs, λ k h. absurd (not-suc-le-zero h))
+
+cast-loop : tie.Need-cast-loop Inv-loop μ-loop
+cast-loop c = search needs
+
+element-copy-out-tail : tie.Need-element-copy-out-tail Inv-loop μ-loop
+element-copy-out-tail c = search needs
+
+cast-tail : tie.Need-cast-tail Inv-loop μ-loop
+cast-tail c = search needs
+
+element-copy-out-head : tie.Need-element-copy-out-head Inv-loop μ-loop
+element-copy-out-head c = search needs
+
+cast-head : tie.Need-cast-head Inv-loop μ-loop
+cast-head c = search needs
+
+element-copy-out-tight-mark : tie.Need-element-copy-out-tight-mark Inv-loop μ-loop
+element-copy-out-tight-mark c = search needs
+
+element-copy-out-tight-mark-2 : tie.Need-element-copy-out-tight-mark-2 Inv-loop μ-loop
+element-copy-out-tight-mark-2 c = omega (arith, ends (c .before .before .before))
+
+element-copy-out-tight-mark-3 : tie.Need-element-copy-out-tight-mark-3 Inv-loop μ-loop
+element-copy-out-tight-mark-3 c = omega (arith, ends (c .before .before .before .before))
+
+tight-mark-requires : tie.Need-tight-mark-requires Inv-loop μ-loop
+tight-mark-requires c κs = search needs
+
+array-write-tights : tie.Need-array-write-tights Inv-loop μ-loop
+array-write-tights c = search needs
+
+add-e : tie.Need-add-e Inv-loop μ-loop
+add-e c = search needs
+
+loop-less : tie.Need-loop-less Inv-loop μ-loop
+loop-less c = search needs
+
+loop-again : tie.Need-loop-again Inv-loop μ-loop
+loop-again c =
+    let l = c .before .before .before .before .before .before .before .loop in
+    (search needs, search needs, tights-more _ (l .tights) (l .e) _ (omega arith) (c .tight-mark .ensures) (l .inv .2))
+
+returns : tie.Need-returns Inv-loop μ-loop
+returns c e l = c .before .loop .inv .2 e (omega arith)
+
+pub tights-of-spec : {M : Type 1} → statement M
+tights-of-spec =
+    tie.close
+    (tie.spec
+    Inv-loop
+    μ-loop
+    loop-holds
+    cast-loop
+    element-copy-out-tail
+    cast-tail
+    element-copy-out-head
+    cast-head
+    element-copy-out-tight-mark
+    element-copy-out-tight-mark-2
+    element-copy-out-tight-mark-3
+    tight-mark-requires
+    array-write-tights
+    add-e
+    loop-less
+    loop-again
+    returns)

@@ -1,0 +1,70 @@
+-- `reach::weights` meets its contract: the places passed are filled.
+-- Assumes nothing.
+use mathlib.Core.Path.{_≡_}
+use Prim.Native.Nat.{_≤_, _-_}
+use native.Mathlib.Omega.{arith}
+use lib.ListN.{length}
+use borrow.Author.Needs.{needs}
+use Rattle.form.specs.Places.{retimingOf}
+use Rattle.legal.specs.Loop.{loopOf}
+use Rattle.reach.specs.Weight.{weight}
+use Rattle.reach.proofs.Laws.{filled, filled-none, filled-more, inside-form, weight-form, weights-form}
+use Rattle.reach.proofs.weights.Statement.{statement}
+use Rattle.reach.proofs.weights.Tie as tie
+
+abbrev Inv-loop : tie.InvT-loop
+Inv-loop form tights weights₀ v₀ v-end weights v =
+    (v-end ≡ form .nodes) × (v ≤ form .nodes) × (length weights ≡ 64) × (weights ≡ filled (weight (loopOf form) (retimingOf form)) v)
+
+abbrev μ-loop : tie.MeasureT-loop
+μ-loop form tights weights₀ v₀ v-end weights v = v-end - v
+
+tights-of-requires : tie.Need-tights-of-requires Inv-loop μ-loop
+tights-of-requires c κs = search needs
+
+loop-holds : tie.Need-loop-holds Inv-loop μ-loop
+loop-holds c = (search needs, search needs, search needs, filled-none _)
+
+weight-of-requires : tie.Need-weight-of-requires Inv-loop μ-loop
+weight-of-requires c κs = (search needs, search needs, inside-form _ (c .before .before .before .before .before .before .before .pre))
+
+cast-weights : tie.Need-cast-weights Inv-loop μ-loop
+cast-weights c = search needs
+
+array-write-weights : tie.Need-array-write-weights Inv-loop μ-loop
+array-write-weights c = search needs
+
+add-v : tie.Need-add-v Inv-loop μ-loop
+add-v c = search needs
+
+loop-less : tie.Need-loop-less Inv-loop μ-loop
+loop-less c = search needs
+
+loop-again : tie.Need-loop-again Inv-loop μ-loop
+loop-again c =
+    let l = c .before .before .before .before .before .before .loop in
+    let start = c .before .before .before .before .before .before .before in (
+      search needs,
+      search needs,
+      search needs,
+      filled-more _ (l .v) _ _ (omega arith) (weight-form _ (l .v) _ _ (start .tights-of .ensures) (c .weight-of .ensures)) (l .inv .3),
+    )
+
+returns : tie.Need-returns Inv-loop μ-loop
+returns c = weights-form _ _ _ (omega arith) (c .before .loop .inv .3)
+
+pub weights-spec : {M : Type 1} → statement M
+weights-spec =
+    tie.close
+    (tie.spec
+    Inv-loop
+    μ-loop
+    tights-of-requires
+    loop-holds
+    weight-of-requires
+    cast-weights
+    array-write-weights
+    add-v
+    loop-less
+    loop-again
+    returns)
