@@ -49,6 +49,9 @@ fn ask(what: u8, record: &[u8], out: &mut [u8], answer: &mut [u32; 69]) {
         1 => {
             rsk_c::rsk_judge(record, answer);
         }
+        2 => {
+            rsk_c::rsk_fit(record, out, answer);
+        }
         _ => {}
     }
 }
