@@ -1,7 +1,7 @@
 -- What the list rule keeps and what it does: starts once given stay, and each new start is a step run at which the node was ready and found a unit free.
 -- Assumes nothing.
-use mathlib.Core.Path.{_≡_, refl, sym, _∙_, ap}
-use mathlib.Core.Bool.{Bool, true, false, _&&_}
+use mathlib.Core.Path.{_≡_, refl, _∙_, ap}
+use mathlib.Core.Bool.{Bool, true, _&&_}
 use mathlib.Core.Logic.{_⊎_, inl, inr, ⊎-elim}
 use mathlib.Core.List.{List, [], _∷_}
 use Prim.Native.Nat.{ℕ, zero, suc, _+_, _≤_, _<_}
@@ -10,7 +10,7 @@ use native.Mathlib.Nat.{eq-zero-or-pos}
 use borrow.Author.Tests.{eqb-true, eq-eqb}
 use lib.Dec.{eqb}
 use lib.ListN.{length, set, length-set}
-use Rattle.lists.specs.Pick.{pick, pick-ind, pick-true, pick-false}
+use Rattle.lists.specs.Pick.{pick-ind, pick-true}
 use Rattle.lists.specs.Both.{and-both, both-and}
 use Rattle.lists.specs.Fold.{fold}
 use Rattle.lists.specs.Place.{set-view}
@@ -131,11 +131,11 @@ module _ (g : Loop) (r : ℕ → ℕ) where
       inl
       (set-view s v p w))
 
-  fold-took : (before : List ℕ) (p : ℕ) → 1 ≤ p → (vs s : List ℕ) (w : ℕ)
+  fold-took : (before : List ℕ) (p : ℕ) (vs s : List ℕ) (w : ℕ)
       → (startAt (fold (place g r before p) s vs) w ≡ startAt s w) ⊎ Took before p s (fold (place g r before p) s vs) w
   unfolding fold
-  fold-took before p one [] s w = inl refl
-  fold-took before p one (v ∷ vs) s w =
+  fold-took before p [] s w = inl refl
+  fold-took before p (v ∷ vs) s w =
       let s′ = place g r before p s v in
       let t = fold (place g r before p) s′ vs in
       ⊎-elim
@@ -144,13 +144,13 @@ module _ (g : Loop) (r : ℕ → ℕ) where
       (λ k. inr (record { table = k .table; from = k .from; goes = k .goes; now = e ∙ k .now }))
       (place-took before p s v w))
       (λ k. inr (record { table = k .table; from = keeps-on s s′ (k .table) (place-keeps before p s v) (k .from); goes = k .goes; now = k .now }))
-      (fold-took before p one vs s′ w)
+      (fold-took before p vs s′ w)
 
   -- a step leaves a node's start, or places it
-  pub step-took : (order : List ℕ) (p : ℕ) → 1 ≤ p → (s : List ℕ) (v : ℕ)
+  pub step-took : (order : List ℕ) (p : ℕ) (s : List ℕ) (v : ℕ)
       → (startAt (fillStep g r order p s) v ≡ startAt s v) ⊎ Took s p s (fillStep g r order p s) v
   unfolding fillStep
-  step-took order p one s v = fold-took s p one order s v
+  step-took order p s v = fold-took s p order s v
 
   -- one of so many steps from p on placed node v on the way from s to t
   pub record Ran (order : List ℕ) (left p : ℕ) (s t : List ℕ) (v : ℕ) : Type 0 where
@@ -177,11 +177,11 @@ module _ (g : Loop) (r : ℕ → ℕ) where
     ran-keeps = keeps-on (k .table) (fillStep g r order (k .step) (k .table)) t (step-keeps order (k .step) (k .table)) (k .to)
 
   -- the rule leaves a node's start, or places it in one of its steps
-  pub fill-ran : (order : List ℕ) (left p : ℕ) → 1 ≤ p → (s : List ℕ) (v : ℕ)
+  pub fill-ran : (order : List ℕ) (left p : ℕ) (s : List ℕ) (v : ℕ)
       → (startAt (fillFrom g r order left p s) v ≡ startAt s v) ⊎ Ran order left p s (fillFrom g r order left p s) v
   unfolding fillFrom
-  fill-ran order zero p one s v = inl refl
-  fill-ran order (suc left) p one s v =
+  fill-ran order zero p s v = inl refl
+  fill-ran order (suc left) p s v =
       let s′ = fillStep g r order p s in
       let t = fillFrom g r order left (p + 1) s′ in
       pick-ind (λ u. (startAt u v ≡ startAt s v) ⊎ Ran order (suc left) p s u v) (allPlaced g r s) s t
@@ -190,7 +190,7 @@ module _ (g : Loop) (r : ℕ → ℕ) where
       (λ q. ⊎-elim
       (λ d. inl (q ∙ d))
       (λ k. inr (record { step = p; begun = omega arith; ended = omega arith; table = s; from = λ u l. refl; took = k; to = fill-keeps order left (p + 1) s′ }))
-      (step-took order p one s v))
+      (step-took order p s v))
       (λ k. inr (record {
         step = k .step;
         begun = omega (arith, k .begun);
@@ -200,4 +200,4 @@ module _ (g : Loop) (r : ℕ → ℕ) where
         took = k .took;
         to = k .to;
       }))
-      (fill-ran order left (p + 1) (omega arith) s′ v))
+      (fill-ran order left (p + 1) s′ v))

@@ -2,14 +2,16 @@
 -- Assumes nothing.
 use mathlib.Core.Path.{_≡_, refl, sym, _∙_, ap}
 use mathlib.Core.Bool.{Bool, true, false}
-use mathlib.Core.Logic.{_≢_, ⊎-elim}
+use mathlib.Core.Logic.{_≢_}
 use mathlib.Core.List.{List, [], _∷_, map}
 use Prim.Native.Nat.{ℕ, zero, suc, _+_, _-_, _*_, _≤_, _<_, suc-le-suc}
 use native.Mathlib.Omega.{arith}
 use native.Mathlib.Decide.{ℕ-discrete}
 use native.Mathlib.Nat.{not-suc-le-zero, le-of-suc-le-suc, mul-suc}
+use borrow.Author.Tests.{eq-eqb, ne-eqb}
+use lib.Dec.{eqb}
 use lib.ListN.{length, getD}
-use Rattle.lists.specs.Pick.{pick, pick-true, pick-false, pick-ind, both-ways}
+use Rattle.lists.specs.Pick.{pick, pick-true, pick-false}
 use Rattle.lists.specs.Span.{span, span-length, span-at}
 use Rattle.lists.specs.Fold.{sumOf, count, top}
 
@@ -21,7 +23,7 @@ count-none f [] d h = refl
 count-none f (x ∷ xs) d h =
     omega (arith, pick-false {A = ℕ} (f x) 1 0 (h 0 (omega arith)), count-none f xs d (λ i l. h (suc i) (suc-le-suc l)))
 
--- of none that is counted any passes
+-- where nothing is counted nothing passes
 pub none-counted {ℓ} : {A : Type ℓ} (f : A → Bool) (xs : List A) (d : A) → count f xs ≡ 0 → (i : ℕ) → i < length xs → f (getD xs i d) ≡ false
 unfolding count
 none-counted f [] d e i l = absurd (not-suc-le-zero l)
@@ -49,6 +51,15 @@ unfolding count
 place-count f [] d i l e = absurd (not-suc-le-zero l)
 place-count f (x ∷ xs) d zero l e = omega (arith, pick-true {A = ℕ} (f x) 1 0 e)
 place-count f (x ∷ xs) d (suc i) l e = omega (arith, place-count f xs d i (le-of-suc-le-suc l) e)
+
+-- what passes at two places is counted twice
+pub twice-counted {ℓ} : {A : Type ℓ} (f : A → Bool) (xs : List A) (d : A) (i j : ℕ) → i < j → j < length xs → f (getD xs i d) ≡ true → f (getD xs j d) ≡ true → 2 ≤ count f xs
+unfolding count
+twice-counted f [] d i j l m p q = absurd (not-suc-le-zero m)
+twice-counted f (x ∷ xs) d i zero l m p q = absurd (not-suc-le-zero l)
+twice-counted f (x ∷ xs) d zero (suc j) l m p q = omega (arith, pick-true {A = ℕ} (f x) 1 0 p, place-count f xs d j (le-of-suc-le-suc m) q)
+twice-counted f (x ∷ xs) d (suc i) (suc j) l m p q =
+    omega (arith, twice-counted f xs d i j (le-of-suc-le-suc l) (le-of-suc-le-suc m) p q)
 
 pub count-sum {ℓ} : {A : Type ℓ} (f : A → Bool) (xs : List A) → count f xs ≡ sumOf (λ x. pick (f x) 1 0) xs
 unfolding count sumOf
@@ -92,6 +103,17 @@ count-one h f v same n l =
       count-sum h (span 0 n),
       count-sum f (span 0 n),
       sum-one (λ w. pick (h w) 1 0) (λ w. pick (f w) 1 0) v (λ w ne. ap (λ b. pick b 1 0) (same w ne)) 0 n (omega arith) (omega arith),
+    )
+
+-- a run from 0 has each of its numbers once
+pub span-once : (v n : ℕ) → v < n → count (eqb v) (span 0 n) ≡ 1
+unfolding pick
+span-once v n l =
+    omega (
+      arith,
+      count-one (eqb v) (λ w. false) v (λ w ne. ne-eqb v w (λ e. ne (sym e))) n l,
+      span-none (λ w. false) 0 n (λ i a b. refl),
+      pick-true {A = ℕ} (eqb v v) 1 0 (eq-eqb v v refl),
     )
 
 -- a term is at most the sum
