@@ -4,3 +4,4 @@ pub mod Worked
 pub mod Kept
 pub mod Units
 pub mod Edges
+pub mod Ordered
