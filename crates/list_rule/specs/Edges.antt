@@ -34,7 +34,7 @@ module _ (g : Loop) where
     unfolding blocks
     open-told s p e t b =
         let o = or-fails _ _ (and-fails _ _ b t) in
-        let set : startAt s (g .graph .tail e) ≡ 0 → ⊥ = eqb-false _ _ (o .0) in
+        let unset : startAt s (g .graph .tail e) ≡ 0 → ⊥ = eqb-false _ _ (o .0) in
         record { placed = omega arith; by = ltb-false _ _ (o .1) }
 
     told-open : (s : List ℕ) (p e : ℕ) → (tight g r e ≡ true → Finished s p e) → blocks g r s p e ≡ false

@@ -10,7 +10,7 @@ use native.Mathlib.Nat.{eq-zero-or-pos}
 use borrow.Author.Tests.{eqb-true, eq-eqb}
 use lib.Dec.{eqb}
 use lib.ListN.{length, set, length-set}
-use Rattle.lists.specs.Pick.{pick-ind, pick-true}
+use Rattle.lists.specs.Pick.{pick-ind, both-ways}
 use Rattle.lists.specs.Both.{and-both, both-and}
 use Rattle.lists.specs.Fold.{fold}
 use Rattle.lists.specs.Place.{set-view}
@@ -41,25 +41,22 @@ module _ (g : Loop) (r : ℕ → ℕ) where
       let b = and-both _ _ (a .1) in
       record { unset = eqb-true _ _ (a .0); is-ready = b .0; is-free = b .1 }
 
-  -- a node that goes is placed
-  pub place-goes : (before : List ℕ) (p : ℕ) (s : List ℕ) (v : ℕ) → Goes before p s v → place g r before p s v ≡ set s v p
-  unfolding place
-  place-goes before p s v h =
-      pick-true (goes before p s v) (set s v p) s (both-and _ _ (eq-eqb _ _ (h .unset)) (both-and _ _ (h .is-ready) (h .is-free)))
+  told-goes : (before : List ℕ) (p : ℕ) (s : List ℕ) (v : ℕ) → Goes before p s v → goes before p s v ≡ true
+  told-goes before p s v h = both-and _ _ (eq-eqb _ _ (h .unset)) (both-and _ _ (h .is-ready) (h .is-free))
 
   -- it goes, or nothing happens
   pub place-view : (before : List ℕ) (p : ℕ) (s : List ℕ) (v : ℕ)
-      → (Goes before p s v × (place g r before p s v ≡ set s v p)) ⊎ (place g r before p s v ≡ s)
+      → (Goes before p s v × (place g r before p s v ≡ set s v p)) ⊎ ((Goes before p s v → ⊥) × (place g r before p s v ≡ s))
   unfolding place
   place-view before p s v =
-      pick-ind (λ t. (Goes before p s v × (t ≡ set s v p)) ⊎ (t ≡ s)) (goes before p s v) (set s v p) s
+      pick-ind (λ t. (Goes before p s v × (t ≡ set s v p)) ⊎ ((Goes before p s v → ⊥) × (t ≡ s))) (goes before p s v) (set s v p) s
       (λ e. inl (goes-told before p s v e, refl))
-      (λ e. inr refl)
+      (λ e. inr (λ h. both-ways (told-goes before p s v h) e, refl))
 
   -- what holds of s holds after a placement, if it holds after a store at a node that goes
   pub place-ind {ℓ} : (P : List ℕ → Type ℓ) (before : List ℕ) (p : ℕ) (s : List ℕ) (v : ℕ)
       → P s → (Goes before p s v → P (set s v p)) → P (place g r before p s v)
-  place-ind P before p s v stays goes = ⊎-elim (λ w. rw (w .1) (goes (w .0))) (λ w. rw w stays) (place-view before p s v)
+  place-ind P before p s v stays goes = ⊎-elim (λ w. rw (w .1) (goes (w .0))) (λ w. rw (w .1) stays) (place-view before p s v)
 
   -- ---- what is kept
 

@@ -5,3 +5,7 @@ pub mod Kept
 pub mod Units
 pub mod Edges
 pub mod Ordered
+pub mod Ends
+pub mod Filling
+pub mod Placed
+pub mod FirstLegal
