@@ -22,18 +22,18 @@ use Rattle.list_rule.specs.Filling.{Staffed, Ranked, Filled, filled-leng
 use Rattle.list_rule.specs.Placed.{zeros-places}
 
 -- no retiming
-abbrev pub none : ℕ → ℕ
-none v = 0
+abbrev pub unretimed : ℕ → ℕ
+unretimed v = 0
 
 -- the first starts, and the pair that they make
 unfoldable pub firstStarts : Loop → List ℕ
-firstStarts g = listRule g none (replicate 64 0)
+firstStarts g = listRule g unretimed (replicate 64 0)
 
 unfoldable pub firstPair : Loop → Pair
-firstPair g = record { start = startAt (firstStarts g); length = lengthOf g (firstStarts g); retiming = none }
+firstPair g = record { start = startAt (firstStarts g); length = lengthOf g (firstStarts g); retiming = unretimed }
 
 -- without a knot, edges of delay 0 go up in the values that the system of knots settles at
-pub unknotted-ranked : (g : Loop) → knotted g ≡ false → Ranked g none
+pub unknotted-ranked : (g : Loop) → knotted g ≡ false → Ranked g unretimed
 unfolding knotted knots tight
 unknotted-ranked g k = record {
   rank = settledAt (knots g);
@@ -43,18 +43,18 @@ unknotted-ranked g k = record {
 module _ (g : Loop) (sound : Sound g) (staffed : Staffed g) (free : knotted g ≡ false) where
   pub first-filled : Filled g (firstStarts g) 512
   unfolding firstStarts
-  first-filled = zeros-places g none sound staffed (unknotted-ranked g free)
+  first-filled = zeros-places g unretimed sound staffed (unknotted-ranked g free)
 
   pub first-length : (1 ≤ lengthOf g (firstStarts g)) × (lengthOf g (firstStarts g) ≤ 512)
   first-length = filled-length g (firstStarts g) 512 sound first-filled
 
   first-edge : (e : ℕ) → e < g .graph .edges → EdgeRule g (firstPair g) e
   unfolding firstPair firstStarts tight
-  first-edge e l = go (tight g none e) refl
+  first-edge e l = go (tight g unretimed e) refl
     where
-      go : (b : Bool) → tight g none e ≡ b → EdgeRule g (firstPair g) e
+      go : (b : Bool) → tight g unretimed e ≡ b → EdgeRule g (firstPair g) e
       go true t =
-          let f = zeros-in-time g none 64 e l t (first-filled .placed _ (sound .joined .heads e l)) in
+          let f = zeros-in-time g unretimed 64 e l t (first-filled .placed _ (sound .joined .heads e l)) in
           omega (arith, f .by)
       go false t =
           let n : g .delay e ≡ 0 → ⊥ = λ z. eqb-false (g .delay e + 0) 0 t (omega arith) in
@@ -74,5 +74,5 @@ module _ (g : Loop) (sound : Sound g) (staffed : Staffed g) (free : knotted g �
     retimings = λ v l. omega arith;
     least = (0, sound .some, refl);
     edges = first-edge;
-    units = λ q c a b d. omega (arith, in-use-busy g (firstStarts g) (firstPair g) (first-filled .placed) (λ v l. refl) c q, zeros-units g none 64 c q);
+    units = λ q c a b d. omega (arith, in-use-busy g (firstStarts g) (firstPair g) (first-filled .placed) (λ v l. refl) c q, zeros-units g unretimed 64 c q);
   }
