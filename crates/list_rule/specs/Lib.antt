@@ -1,3 +1,11 @@
 pub mod Order
 pub mod Rule
 pub mod Worked
+pub mod Kept
+pub mod Units
+pub mod Edges
+pub mod Ordered
+pub mod Ends
+pub mod Filling
+pub mod Placed
+pub mod FirstLegal
