@@ -1,0 +1,4 @@
+pub mod Pairs
+pub mod Rotation
+pub mod Search
+pub mod Worked
