@@ -54,7 +54,8 @@ pub fn judge_form(form: Form) -> Judged
             cycle: knot,
         };
     }
-    alone(rules_of(form))
+    let refusal = rules_of(form);
+    alone(refusal)
 }
 
 // What is refused of a record: by the reader first.
