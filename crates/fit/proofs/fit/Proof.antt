@@ -23,15 +23,21 @@ returns c = fit-unread _ _ _ (c .before .before .before .read .ensures) (sym (c 
 plan-of-requires : tie.Need-plan-of-requires
 plan-of-requires c κs =
     let r = c .before .before .before in
-    form-good (r .before .before .before .args .«record» .now) (r .before .before .before .args .out .now) _ (r .read .ensures) (λ i. omega (arith, r .before .before .shared-slice-known .given i)) (sym (c .before .before .is-fine .ensures) ∙ not-false _ (c .before .if1 .left))
+    let a = r .before .before .before .args in
+    form-good (a .«record» .now) (a .out .now) _ (r .read .ensures) (λ i. omega (arith, r .before .before .shared-slice-known .given i))
+    (sym (c .before .before .is-fine .ensures) ∙ not-false _ (c .before .if1 .left))
 
 is-fine-requires-2 : tie.Need-is-fine-requires-2
 is-fine-requires-2 c κs = search needs
 
 returns-2 : tie.Need-returns-2
 returns-2 c =
-    let r = c .before .before .before .before .before .before .before in
-    fit-refused (r .before .before .before .args .«record» .now) (r .before .before .before .args .out .now) _ (r .read .ensures) (λ i. omega (arith, r .before .before .shared-slice-known .given i)) (sym (c .before .before .before .before .before .before .is-fine .ensures) ∙ not-false _ (c .before .before .before .before .before .if1 .left)) _ (c .before .before .before .plan-of .ensures) (sym (c .before .is-fine2 .ensures) ∙ not-true _ (c .if2 .taken))
+    let t = c .before .before .before in
+    let r = t .before .before .before .before in
+    let a = r .before .before .before .args in
+    fit-refused (a .«record» .now) (a .out .now) _ (r .read .ensures) (λ i. omega (arith, r .before .before .shared-slice-known .given i))
+    (sym (t .before .before .before .is-fine .ensures) ∙ not-false _ (t .before .before .if1 .left)) _ (t .plan-of .ensures)
+    (sym (c .before .is-fine2 .ensures) ∙ not-true _ (c .if2 .taken))
 
 write-requires : tie.Need-write-requires
 write-requires c κs = search needs
@@ -41,8 +47,13 @@ same-length c = search needs
 
 returns-3 : tie.Need-returns-3
 returns-3 c =
-    let r = c .before .before .before .before .before .before .before .before .before .before .before .before in
-    fit-written (r .before .before .before .args .«record» .now) (r .before .before .before .args .out .now) _ (r .read .ensures) (λ i. omega (arith, r .before .before .shared-slice-known .given i)) (sym (c .before .before .before .before .before .before .before .before .before .before .before .is-fine .ensures) ∙ not-false _ (c .before .before .before .before .before .before .before .before .before .before .if1 .left)) _ (c .before .before .before .before .before .before .before .before .plan-of .ensures) (sym (c .before .before .before .before .before .before .is-fine2 .ensures) ∙ not-false _ (c .before .before .before .before .before .if2 .left)) _ _ (c .before .before .write .ensures .0) (c .before .before .write .ensures .1)
+    let w = c .before .before in
+    let t = w .before .before .before .before .before .before in
+    let r = t .before .before .before .before in
+    let a = r .before .before .before .args in
+    fit-written (a .«record» .now) (a .out .now) _ (r .read .ensures) (λ i. omega (arith, r .before .before .shared-slice-known .given i))
+    (sym (t .before .before .before .is-fine .ensures) ∙ not-false _ (t .before .before .if1 .left)) _ (t .plan-of .ensures)
+    (sym (w .before .before .before .before .is-fine2 .ensures) ∙ not-false _ (w .before .before .before .if2 .left)) _ _ (w .write .ensures .0) (w .write .ensures .1)
 
 pub fit-spec : {M : Type 1} → statement M
 fit-spec =

@@ -15,19 +15,28 @@ solve-requires c κs =
     ((s .pre .0 .nodes .0, s .pre .0 .nodes .1, s .pre .0 .edges), filled-joined _ (s .pre .0) _ _ (c .before .before .before .before .before .before .limits-of .ensures))
 
 returns : tie.Need-returns
-returns c = when-unfit _ (c .before .before .before .before .before .before .before .before .before .before .pre .0) _ _ (c .before .before .before .before .before .before .before .before .before .limits-of .ensures) _ (c .before .before .solve .ensures) (not-true _ (c .if1 .taken))
+returns c =
+    let u = c .before .before in
+    let l = u .before .before .before .before .before .before .before in
+    when-unfit _ (l .before .pre .0) _ _ (l .limits-of .ensures) _ (u .solve .ensures) (not-true _ (c .if1 .taken))
 
 top-of-requires : tie.Need-top-of-requires
 top-of-requires c κs = search needs
 
 turned-requires : tie.Need-turned-requires
 turned-requires c κs =
-    let s = c .before .before .before .before .before .before .before .before .before .before .before .before .before .before .before in
-    let h = c .before .before .top-of .ensures in
-    ((s .pre .0 .nodes .1, top-small _ (s .pre .0) _ _ (c .before .before .before .before .before .before .before .before .before .before .before .before .before .before .limits-of .ensures) _ (c .before .before .before .before .before .before .before .solve .ensures) (not-false _ (c .before .before .before .before .before .if1 .left)) _ h), under-top _ _ _ h)
+    let u = c .before .before .before .before .before .before .before in
+    let l = u .before .before .before .before .before .before .before in
+    let h = c .before .before .top-of .ensures in (
+      (l .before .pre .0 .nodes .1, top-small _ (l .before .pre .0) _ _ (l .limits-of .ensures) _ (u .solve .ensures) (not-false _ (c .before .before .before .before .before .if1 .left)) _ h),
+      under-top _ _ _ h,
+    )
 
 returns-2 : tie.Need-returns-2
-returns-2 c = when-fits _ (c .before .before .before .before .before .before .before .before .before .before .before .before .before .before .before .before .pre .0) _ _ (c .before .before .before .before .before .before .before .before .before .before .before .before .before .before .before .limits-of .ensures) _ (c .before .before .before .before .before .before .before .before .solve .ensures) (not-false _ (c .before .before .before .before .before .before .if1 .left)) _ (c .before .before .before .top-of .ensures) _ (c .turned .ensures)
+returns-2 c =
+    let u = c .before .before .before .before .before .before .before .before in
+    let l = u .before .before .before .before .before .before .before in
+    when-fits _ (l .before .pre .0) _ _ (l .limits-of .ensures) _ (u .solve .ensures) (not-false _ (c .before .before .before .before .before .before .if1 .left)) _ (c .before .before .before .top-of .ensures) _ (c .turned .ensures)
 
 pub fit-starts-spec : {M : Type 1} → statement M
 fit-starts-spec =

@@ -22,7 +22,10 @@ fit-starts-requires : tie.Need-fit-starts-requires
 fit-starts-requires c κs = search needs
 
 returns-3 : tie.Need-returns-3
-returns-3 c = plan-unfit _ (c .before .before .before .before .before .before .before .if1 .left) _ (c .before .before .before .before .before .before .knot-of .ensures) (c .before .before .before .before .if2 .left) _ (c .before .before .before .fit-starts .ensures) (not-true _ (c .if3 .taken))
+returns-3 c =
+    let t = c .before .before .before in
+    let k = t .before .before .before in
+    plan-unfit _ (k .before .if1 .left) _ (k .knot-of .ensures) (t .before .if2 .left) _ (t .fit-starts .ensures) (not-true _ (c .if3 .taken))
 
 crowded-requires : tie.Need-crowded-requires
 crowded-requires c κs = search needs
@@ -31,7 +34,11 @@ with-retiming-requires : tie.Need-with-retiming-requires
 with-retiming-requires c κs = search needs
 
 returns-4 : tie.Need-returns-4
-returns-4 c = plan-fits _ (c .before .before .before .before .before .before .before .before .before .before .if1 .left) _ (c .before .before .before .before .before .before .before .before .before .knot-of .ensures) (c .before .before .before .before .before .before .before .if2 .left) _ (c .before .before .before .before .before .before .fit-starts .ensures) (not-false _ (c .before .before .before .if3 .left)) _ (c .before .crowded .ensures) _ (c .with-retiming .ensures)
+returns-4 c =
+    let t = c .before .before .before .before .before .before in
+    let k = t .before .before .before in
+    plan-fits _ (k .before .if1 .left) _ (k .knot-of .ensures) (t .before .if2 .left) _ (t .fit-starts .ensures) (not-false _ (c .before .before .before .if3 .left)) _
+    (c .before .crowded .ensures) _ (c .with-retiming .ensures)
 
 pub plan-of-spec : {M : Type 1} → statement M
 plan-of-spec =
