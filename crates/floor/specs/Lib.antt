@@ -1,3 +1,5 @@
 pub mod Parts
 pub mod Busy
+pub mod Least
+pub mod Bounds
 pub mod Floor
