@@ -5,3 +5,4 @@ pub mod Walks
 pub mod Rising
 pub mod Laws
 pub mod Turned
+pub mod Same

@@ -1,0 +1,115 @@
+-- The ways that the judge goes: through the rules, through a form, through a record.
+-- Assumes nothing.
+use mathlib.Core.Path.{_≡_, refl, sym, ap, subst, _∙_}
+use mathlib.Core.Bool.{true, false}
+use mathlib.Core.Logic.{_≢_}
+use mathlib.Core.List.{List}
+use Prim.Native.Nat.{ℕ, _≤_, _<_}
+use native.Mathlib.Omega.{arith}
+use borrow.Author.Tests.{lt-ltb, le-ltb, eq-eqb, ne-eqb}
+use lib.Dec.{leb, ltb, eqb}
+use Rattle.lists.specs.Pick.{pick-ind, pick-true, pick-false}
+use Rattle.lists.specs.Place.{zeros-at}
+use Rattle.answer.specs.Refused.{numberOf, fine}
+use Rattle.answer.specs.Outcome.{noCycle}
+use Rattle.answer.specs.declared.Cycle.{Cycle}
+use Rattle.answer.specs.declared.Refusal.{Refusal}
+use Rattle.answer.specs.declared.Refusal.the-variants.{Bare, Knot, Dependence}
+use Rattle.form.specs.declared.Form.{Form}
+use Rattle.form.specs.Ranges.{WellFormed}
+use Rattle.field.specs.Number.{Bytes}
+use Rattle.reader.specs.declared.Record.{Record}
+use Rattle.reader.specs.Reading.{readForm}
+use Rattle.record.specs.Read.{read-well-formed}
+use Rattle.legal.specs.Loop.{Loop, Pair, graphOf, loopOf, pairOf}
+use Rattle.legal.specs.Systems.{knotted}
+use Rattle.legal.specs.Judging.{brokenEdge, overStep, unitsOf, rulesOf, judgeOf}
+use Rattle.legal.specs.Handed.{Handed}
+use Rattle.knots.specs.Found.{KnotFound}
+use Rattle.judge.specs.declared.Judged.{Judged}
+use Rattle.judge.specs.Judgement.{Judgement, judgeRecord, RecordJudgement}
+use Rattle.judge.specs.Early.{read-early}
+
+-- ---- the rules
+
+module _ (f : Form) (e : ℕ) (is : e ≡ brokenEdge (loopOf f) (pairOf f)) where
+  pub edge-refused : e < f .edges → Dependence e ≡ rulesOf (loopOf f) (pairOf f)
+  unfolding rulesOf loopOf graphOf
+  edge-refused l = sym (rw (← is) (pick-true (ltb e (f .edges)) (Dependence e) (unitsOf (loopOf f) (pairOf f)) (lt-ltb _ _ l)))
+
+  pub edges-kept : f .edges ≤ e → (r : Refusal) → r ≡ unitsOf (loopOf f) (pairOf f) → r ≡ rulesOf (loopOf f) (pairOf f)
+  unfolding rulesOf loopOf graphOf
+  edges-kept l r u = u ∙ sym (rw (← is) (pick-false (ltb e (f .edges)) (Dependence e) (unitsOf (loopOf f) (pairOf f)) (le-ltb _ _ l)))
+
+-- ---- a form
+
+-- a refusal that no cycle proves
+pub record Plain (r : Refusal) : Type 0 where
+  pub unknotted : numberOf r ≢ 12
+  pub fitting : numberOf r ≢ 14
+
+rules-plain : (g : Loop) (p : Pair) → Plain (rulesOf g p)
+unfolding rulesOf unitsOf
+rules-plain g p =
+    pick-ind Plain (ltb (brokenEdge g p) (g .graph .edges)) _ _ (λ e. record { unknotted = omega arith; fitting = omega arith })
+    (λ e. pick-ind Plain (leb (overStep g p) (p .length)) _ _ (λ l. record { unknotted = omega arith; fitting = omega arith })
+    (λ l. record { unknotted = omega arith; fitting = omega arith }))
+
+module _ (g : Loop) (p : Pair) (r : Refusal) (c : Cycle) where
+  handed-none : Plain r → c ≡ noCycle → Handed g p r c
+  handed-none plain e = record {
+    knot = λ k. absurd (plain .unknotted (ap numberOf k));
+    impossible = λ k. absurd (plain .fitting (ap numberOf k));
+    none = λ k n. e;
+    filled = λ i h. rw e (zeros-at 64 i);
+  }
+
+module _ (f : Form) (j : Judged) where
+  judged-alone : (r : Refusal) → Plain r → j .refusal ≡ r → j .cycle ≡ noCycle → r ≡ judgeOf f → Judgement f j
+  judged-alone r plain e z is = record { refusal = e ∙ is; handed = handed-none (loopOf f) (pairOf f) _ _ (subst Plain (sym e) plain) z }
+
+  pub judged-bare : f .length ≡ 0 → j .refusal ≡ Bare → j .cycle ≡ noCycle → Judgement f j
+  unfolding judgeOf
+  judged-bare l e z = judged-alone Bare (record { unknotted = omega arith; fitting = omega arith }) e z (sym (pick-true (eqb (f .length) 0) _ _ (eq-eqb _ _ l)))
+
+  module _ (some : f .length ≢ 0) (c : Cycle) (found : KnotFound (loopOf f) c) where
+    pub judged-rules : c .count ≤ 0 → (r : Refusal) → r ≡ rulesOf (loopOf f) (pairOf f) → j .refusal ≡ r → j .cycle ≡ noCycle → Judgement f j
+    unfolding judgeOf
+    judged-rules l r is e z =
+        judged-alone r (subst Plain (sym is) (rules-plain (loopOf f) (pairOf f))) e z
+        (is ∙ sym (pick-false (eqb (f .length) 0) _ _ (ne-eqb _ _ some) ∙ pick-false (knotted (loopOf f)) _ _ (found .free (omega arith))))
+
+pub judged-knot : (f : Form) → f .length ≢ 0 → (c : Cycle) → KnotFound (loopOf f) c → 0 < c .count → Judgement f (record { refusal = Knot; cycle = c })
+unfolding judgeOf
+judged-knot f some c found l = record {
+  refusal = sym (pick-false (eqb (f .length) 0) _ _ (ne-eqb _ _ some) ∙ pick-true (knotted (loopOf f)) _ _ (found .tied l));
+  handed = record {
+    knot = λ k. found .knot l;
+    impossible = λ k. let n : _≡_ {A = ℕ} 12 14 = ap numberOf k in absurd (omega arith);
+    none = λ k n. absurd (k refl);
+    filled = found .filled;
+  };
+}
+
+-- ---- a record
+
+module _ (s : List ℕ) (r : Record) (back : r ≡ readForm s) where
+  pub read-good : Bytes s → fine (r .refusal) ≡ true → WellFormed (r .form)
+  read-good b f = rw back (read-well-formed s b (rw back at f))
+
+  module _ (j : Judged) where
+    pub record-refused : fine (r .refusal) ≡ false → j .refusal ≡ r .refusal → j .cycle ≡ noCycle → RecordJudgement s j
+    unfolding judgeRecord
+    record-refused f e z =
+        let n : numberOf (j .refusal) ≤ 10 = rw (e, back) (read-early s) in
+        record {
+          refusal = e ∙ sym (rw (← back) (pick-false (fine (r .refusal)) (judgeOf (r .form)) (r .refusal) f));
+          handed = handed-none _ _ _ _ (record { unknotted = λ k. omega arith; fitting = λ k. omega arith }) z;
+        }
+
+    pub record-judged : fine (r .refusal) ≡ true → Judgement (r .form) j → RecordJudgement s j
+    unfolding judgeRecord
+    record-judged f t = record {
+      refusal = t .refusal ∙ sym (rw (← back) (pick-true (fine (r .refusal)) (judgeOf (r .form)) (r .refusal) f));
+      handed = rw (← back) (t .handed);
+    }

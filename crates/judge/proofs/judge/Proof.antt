@@ -1,0 +1,38 @@
+-- `judge::judge` meets its contract: the reader's refusal, else the form's.
+-- Assumes nothing.
+use mathlib.Core.Path.{sym, _∙_}
+use native.Mathlib.Omega.{arith}
+use borrow.Author.Tests.{not-true, not-false}
+use borrow.Author.Needs.{needs}
+use Rattle.judge.proofs.Laws.{read-good, record-refused, record-judged}
+use Rattle.judge.proofs.judge.Statement.{statement}
+use Rattle.judge.proofs.judge.Tie as tie
+
+read-requires : tie.Need-read-requires
+read-requires c κs = search needs
+
+is-fine-requires : tie.Need-is-fine-requires
+is-fine-requires c κs = search needs
+
+alone-requires : tie.Need-alone-requires
+alone-requires c κs = search needs
+
+returns : tie.Need-returns
+returns c =
+    let r = c .before .before .before in
+    record-refused _ _ (r .read .ensures) _ (sym (c .before .before .is-fine .ensures) ∙ not-true _ (c .before .if1 .taken)) (c .alone .ensures .0) (c .alone .ensures .1)
+
+judge-form-requires : tie.Need-judge-form-requires
+judge-form-requires c κs =
+    let r = c .before .before .before in
+    read-good (r .before .before .args .«record» .now) _ (r .read .ensures) (λ i. omega (arith, r .before .shared-slice-known .given i)) (sym (c .before .before .is-fine .ensures) ∙ not-false _ (c .before .if1 .left))
+
+returns-2 : tie.Need-returns-2
+returns-2 c =
+    let r = c .before .before .before .before in
+    record-judged _ _ (r .read .ensures) _ (sym (c .before .before .before .is-fine .ensures) ∙ not-false _ (c .before .before .if1 .left)) (c .judge-form .ensures)
+
+pub judge-spec : {M : Type 1} → statement M
+judge-spec =
+    tie.close
+    (tie.spec read-requires is-fine-requires alone-requires returns judge-form-requires returns-2)
