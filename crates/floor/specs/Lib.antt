@@ -3,3 +3,4 @@ pub mod Busy
 pub mod Least
 pub mod Bounds
 pub mod Floor
+pub mod Named
