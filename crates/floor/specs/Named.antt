@@ -67,7 +67,7 @@ module _ (g : Loop) where
         | no l ↦ absurd (omega (arith, units-under (λ d m. before d (omega arith))))
       ]
 
-  cycle-named : latencyPart g ≢ floorLength g → unitsParts g ≢ floorLength g → Attains g part.Cycle
+  pub cycle-named : latencyPart g ≢ floorLength g → unitsParts g ≢ floorLength g → Attains g part.Cycle
   cycle-named n m = cycle n (λ d l e. m (omega (arith, floor-over .1, units-each d l))) (cycle-last n m)
 
   -- what is named is so
