@@ -92,6 +92,9 @@ module _ (g : Loop) where
   told-cycle : Attains g part.Cycle → (latencyPart g ≢ floorLength g) × (cyclePart g ≡ floorLength g)
   told-cycle (cycle n m e) = (n, e)
 
+  pub cycle-attained : Attains g part.Cycle → cyclePart g ≡ floorLength g
+  cycle-attained a = told-cycle a .1
+
   module _ (s : Sound g) (q : partOf g ≡ part.Cycle) where
     -- with (c) there is a length below the floor
     pub cycle-two : 2 ≤ floorLength g

@@ -14,7 +14,7 @@ wide-requires-2 : tie.Need-wide-requires-2
 wide-requires-2 c κs = search needs
 
 mul-result : tie.Need-mul-result
-mul-result c =     omega (arith, product (c .before .wide .result) (c .wide2 .result) 64 8 (omega (arith, c .before .wide .ensures .0)) (omega (arith, c .wide2 .ensures .0)))
+mul-result c = omega (arith, product (c .before .wide .result) (c .wide2 .result) 64 8 (omega (arith, c .before .wide .ensures .0)) (omega (arith, c .wide2 .ensures .0)))
 
 returns : tie.Need-returns
 returns c =

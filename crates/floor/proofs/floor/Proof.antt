@@ -1,36 +1,36 @@
+-- `floor::floor` meets its contract: the reader's refusal, else the form's floor.
+-- Assumes nothing.
+use mathlib.Core.Path.{sym, _∙_}
+use native.Mathlib.Omega.{arith}
+use borrow.Author.Tests.{not-true, not-false}
+use Rattle.floor.proofs.Answers.{read-good, record-refused, record-floored}
 use borrow.Author.Needs.{needs}
 use Rattle.floor.proofs.floor.Statement.{statement}
 use Rattle.floor.proofs.floor.Tie as tie
-use Rattle.floor.proofs.floor.Reads as reads
-use Rattle.floor.proofs.floor.Lts as lts
-use Rattle.answer.proofs.Refusal.is_fine.Reads as is-fine-reads
-use Rattle.floor.proofs.alone.Reads as alone-reads
-use Rattle.floor.proofs.floor_form.Reads as floor-form-reads
-use Rattle.reader.proofs.read.Reads as read-reads
 
--- src/lib.rt:315:9
 read-requires : tie.Need-read-requires
 read-requires c κs = search needs
 
--- src/lib.rt:317:9
 is-fine-requires : tie.Need-is-fine-requires
 is-fine-requires c κs = search needs
 
--- src/lib.rt:318:9
 alone-requires : tie.Need-alone-requires
 alone-requires c κs = search needs
 
--- src/lib.rt:318:9
 returns : tie.Need-returns
-returns c = ?
+returns c =
+    let r = c .before .before .before in
+    record-refused _ _ (r .read .ensures) _ (sym (c .before .before .is-fine .ensures) ∙ not-true _ (c .before .if1 .taken)) (c .alone .ensures)
 
--- src/lib.rt:321:5
 floor-form-requires : tie.Need-floor-form-requires
-floor-form-requires c κs = ?
+floor-form-requires c κs =
+    let r = c .before .before .before in
+    read-good (r .before .before .args .«record» .now) _ (r .read .ensures) (λ i. omega (arith, r .before .shared-slice-known .given i)) (sym (c .before .before .is-fine .ensures) ∙ not-false _ (c .before .if1 .left))
 
--- src/lib.rt:312:1
 returns-2 : tie.Need-returns-2
-returns-2 c = ?
+returns-2 c =
+    let r = c .before .before .before .before in
+    record-floored _ _ (r .read .ensures) _ (sym (c .before .before .before .is-fine .ensures) ∙ not-false _ (c .before .before .if1 .left)) (c .floor-form .ensures)
 
 pub floor-spec : {M : Type 1} → statement M
 floor-spec =

@@ -1,24 +1,22 @@
+-- `floor::floor_form` meets its contract: a knot, else the floor of a loop without one.
+-- Assumes nothing.
+use native.Mathlib.Omega.{arith}
+use Rattle.floor.proofs.Answers.{floored-knot}
 use borrow.Author.Needs.{needs}
 use Rattle.floor.proofs.floor_form.Statement.{statement}
 use Rattle.floor.proofs.floor_form.Tie as tie
-use Rattle.floor.proofs.floor_form.Reads as reads
-use Rattle.floor.proofs.floor_form.Lts as lts
-use Rattle.floor.proofs.free_floor.Reads as free-floor-reads
-use Rattle.knots.proofs.knot_of.Reads as knot-of-reads
 
--- src/lib.rt:299:9
 knot-of-requires : tie.Need-knot-of-requires
 knot-of-requires c κs = search needs
 
--- src/lib.rt:301:9
 returns : tie.Need-returns
-returns c = ?
+returns c = floored-knot _ _ (c .before .before .knot-of .ensures) (c .if1 .taken)
 
--- src/lib.rt:308:5
 free-floor-requires : tie.Need-free-floor-requires
-free-floor-requires c κs = ?
+free-floor-requires c κs =
+    let k = c .before .before in
+    (k .before .pre, k .knot-of .ensures .free (omega arith))
 
--- src/lib.rt:295:1
 returns-2 : tie.Need-returns-2
 returns-2 c = search needs
 

@@ -1,85 +1,102 @@
+-- `floor::free_floor` meets its contract: the three parts, the largest of them, and the first that attains it.
+-- Assumes nothing.
+use mathlib.Core.Path.{_∙_}
+use native.Mathlib.Omega.{arith}
+use Rattle.form.specs.declared.Form.{Form}
+use Rattle.legal.specs.Loop.{loopOf}
+use Rattle.floor.specs.Tables.{Costed}
+use Rattle.floor.proofs.Answers.{latency-known, Known, known, attains-latency, attains-units, attains-cycle, floored-alone, floored-cycle, below-short}
 use borrow.Author.Needs.{needs}
 use Rattle.floor.proofs.free_floor.Statement.{statement}
 use Rattle.floor.proofs.free_floor.Tie as tie
-use Rattle.floor.proofs.free_floor.Reads as reads
-use Rattle.floor.proofs.free_floor.Lts as lts
-use Rattle.floor.proofs.alone.Reads as alone-reads
-use Rattle.floor.proofs.breaking_cycle.Reads as breaking-cycle-reads
-use Rattle.floor.proofs.busiest_class.Reads as busiest-class-reads
-use Rattle.floor.proofs.costs_of.Reads as costs-of-reads
-use Rattle.floor.proofs.cycle_part.Reads as cycle-part-reads
-use Rattle.floor.proofs.larger.Reads as larger-reads
-use Rattle.floor.proofs.largest.Reads as largest-reads
-use Rattle.floor.proofs.wide.Reads as wide-reads
-use Rattle.floor.proofs.work_of.Reads as work-of-reads
 
--- src/lib.rt:275:16
 work-of-requires : tie.Need-work-of-requires
 work-of-requires c κs = search needs
 
--- src/lib.rt:276:24
 largest-requires : tie.Need-largest-requires
 largest-requires c κs = search needs
 
--- src/lib.rt:276:9
 wide-requires : tie.Need-wide-requires
 wide-requires c κs = search needs
 
--- src/lib.rt:277:9
 busiest-class-requires : tie.Need-busiest-class-requires
-busiest-class-requires c κs = ?
+unfolding loopOf
+busiest-class-requires c κs =
+    let w = c .before .before .before .before .before .before in
+    (w .before .pre .0, w .work-of .ensures .kind)
 
--- src/lib.rt:278:17
 costs-of-requires : tie.Need-costs-of-requires
-costs-of-requires c κs = ?
+costs-of-requires c κs =
+    let w = c .before .before .before .before .before .before .before .before .before .before .before .before .pre .0 in
+    (w .edges, λ e l. omega (arith, w .edge e l .from, w .nodes))
 
--- src/lib.rt:279:51
+-- the costs are the latencies of the edges' tails
+costed : (c : tie.After-costs-of) → Costed (c .before .before .before .before .before .before .before .before .before .before .before .before .before .args .t1) (c .costs-of .result)
+costed c e l =
+    let w = c .before .before .before .before .before .before .before .before .before .before .before .before in
+    c .costs-of .ensures e l ∙ w .work-of .ensures .latency _ (w .before .pre .0 .edge e l .from)
+
 cycle-part-requires : tie.Need-cycle-part-requires
-cycle-part-requires c κs = ?
+cycle-part-requires c κs =
+    let a = c .before .before .before .before .before .before .before .before .before .before .before .before .before .before in
+    (a .pre .0, (costed (c .before), a .pre .1))
 
--- src/lib.rt:279:33
 larger-requires : tie.Need-larger-requires
 larger-requires c κs = search needs
 
--- src/lib.rt:279:9
 larger-requires-2 : tie.Need-larger-requires-2
 larger-requires-2 c κs = search needs
 
--- src/lib.rt:281:9
+-- the three parts and the largest of them
+worked-out : (c : tie.After-larger2) → Known (c .before .before .before .before .before .before .before .before .before .before .before .before .before .before .before .before .before .args .t1) (c .before .before .before .before .before .before .before .before .before .before .before .before .wide .result) (c .before .before .before .before .before .before .before .before .before .busiest-class .result .part) (c .before .before .before .before .before .before .before .before .before .busiest-class .result .class) (c .larger2 .result)
+worked-out c =
+    let w = c .before .before .before .before .before .before .before .before .before .before .before .before .before .before .before .before in
+    let is = c .before .before .before .before .before .before .before .before .before .before .before .before .wide .ensures .0 ∙ c .before .before .before .before .before .before .before .before .before .before .before .before .before .largest .ensures ∙ latency-known (w .before .args .t1) _ _ (w .work-of .ensures) in
+    known (w .before .args .t1) _ _ _ _ _ _ is (c .before .before .before .before .before .before .before .before .before .busiest-class .ensures) (c .before .before .cycle-part .ensures) (c .before .larger .ensures) (c .larger2 .ensures)
+
 alone-requires : tie.Need-alone-requires
 alone-requires c κs = search needs
 
--- src/lib.rt:281:9
 returns : tie.Need-returns
-returns c = ?
+returns c =
+    let p = c .before .before in
+    let a = p .before .before .before .before .before .before .before .before .before .before .before .before .before .before .before .before .before in
+    let k = worked-out p in
+    floored-alone (a .args .t1) (a .pre .1) _ _ _ (omega arith) (attains-latency (a .args .t1) _ _ _ _ k (c .before .if1 .taken)) (k .floor-is) (c .alone .ensures)
 
--- src/lib.rt:284:56
 cast-t24 : tie.Need-cast-t24
 cast-t24 c = search needs
 
--- src/lib.rt:284:9
 alone-requires-2 : tie.Need-alone-requires-2
 alone-requires-2 c κs = search needs
 
--- src/lib.rt:284:9
 returns-2 : tie.Need-returns-2
-returns-2 c = ?
+returns-2 c =
+    let p = c .before .before .before .before .before in
+    let a = p .before .before .before .before .before .before .before .before .before .before .before .before .before .before .before .before .before in
+    let k = worked-out p in
+    floored-alone (a .args .t1) (a .pre .1) _ _ _ (omega arith) (attains-units (a .args .t1) _ _ _ _ k (c .before .before .before .before .if1 .left) (c .before .before .if2 .taken)) (k .floor-is) (c .alone2 .ensures)
 
--- src/lib.rt:288:16
 cast-t27 : tie.Need-cast-t27
 cast-t27 c = search needs
 
--- src/lib.rt:290:45
 sub-breaking-cycle : tie.Need-sub-breaking-cycle
 sub-breaking-cycle c = search needs
 
--- src/lib.rt:290:16
 breaking-cycle-requires : tie.Need-breaking-cycle-requires
-breaking-cycle-requires c κs = ?
+breaking-cycle-requires c κs =
+    let p = c .before .before .before .before in
+    let a = p .before .before .before .before .before .before .before .before .before .before .before .before .before .before .before .before .before in
+    let k = worked-out p in
+    let short = below-short (a .args .t1) (a .pre .1) (a .pre .0) _ (attains-cycle (a .args .t1) _ _ _ _ k (c .before .before .before .if1 .left) (c .before .if2 .left)) (k .floor-is) in
+    (a .pre .0, (costed (p .before .before .before .before), short))
 
--- src/lib.rt:270:1
 returns-3 : tie.Need-returns-3
-returns-3 c = ?
+returns-3 c =
+    let p = c .before .before .before .before .before in
+    let a = p .before .before .before .before .before .before .before .before .before .before .before .before .before .before .before .before .before in
+    let k = worked-out p in
+    floored-cycle (a .args .t1) (a .pre .1) _ _ (attains-cycle (a .args .t1) _ _ _ _ k (c .before .before .before .before .if1 .left) (c .before .before .if2 .left)) (k .floor-is) (c .breaking-cycle .ensures)
 
 pub free-floor-spec : {M : Type 1} → statement M
 free-floor-spec =
