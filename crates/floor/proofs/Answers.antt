@@ -34,9 +34,9 @@ use Rattle.floor.specs.declared.Part.the-variants as part
 use Rattle.floor.specs.declared.Floored.{Floored}
 use Rattle.floor.specs.Parts.{latencyPart, unitsParts, cyclePart, floorLength}
 use Rattle.floor.specs.Least.{enough, cycle-one, cycle-512}
-use Rattle.floor.specs.Tables.{Worked, mostOf, Busy}
+use Rattle.floor.specs.Tables.{Worked, mostOf, Measured}
 use Rattle.floor.specs.Floor.{partNumber, partOf, floorRefusal, FloorCycle, FormFloored, floorRecord, RecordFloored}
-use Rattle.floor.specs.Named.{Attains, latency, units, cycle-named, cycle-attained, named-is, floor-short}
+use Rattle.floor.specs.Named.{Attains, latency, units, cycle-named, cycle-attained, named-is, cycle-two, floor-short}
 
 -- ---- what is worked out of a loop without a knot
 
@@ -53,45 +53,34 @@ latency-known f ks ts t =
       top-le (latencyOn (loopOf f)) (λ v. getD ts v 0) (f .nodes) (λ v l. sym (t .latency v l)),
     )
 
-pub record Known (f : Form) (a b class floor : ℕ) : Type 0 where
-  pub latency-is : a ≡ latencyPart (loopOf f)
-  pub busy : Busy (loopOf f) (f .classes) b class
-  pub floor-is : floor ≡ floorLength (loopOf f)
-  pub most : b ≤ floor
-  pub one : 1 ≤ floor
+module _ (g : Loop) (a b class c inner floor : ℕ) (parts : Measured g a b class c) (is-inner : inner ≡ max b c) (is-floor : floor ≡ max a inner) where
+  -- the largest of the three is the floor
+  pub floor-is : floor ≡ floorLength g
+  unfolding floorLength unitsParts
+  floor-is = omega (arith, parts .latency-is, parts .units-is .most, parts .cycle-is)
 
-pub known : (f : Form) (a b class c inner floor : ℕ) → a ≡ latencyPart (loopOf f) → Busy (loopOf f) (f .classes) b class → c ≡ cyclePart (loopOf f)
-    → inner ≡ max b c → floor ≡ max a inner → Known f a b class floor
-unfolding floorLength unitsParts loopOf
-known f a b class c inner floor is-a busy is-c is-inner is-floor = record {
-  latency-is = is-a;
-  busy = busy;
-  floor-is = omega (arith, busy .most);
-  most = omega arith;
-  one = omega (arith, cycle-one (loopOf f));
-}
+  pub attains-latency : a ≡ floor → Attains g part.Latency
+  attains-latency e = latency (omega (arith, parts .latency-is, floor-is))
 
-module _ (f : Form) (a b class floor : ℕ) (k : Known f a b class floor) where
-  pub attains-latency : a ≡ floor → Attains (loopOf f) part.Latency
-  attains-latency e = latency (omega (arith, k .latency-is, k .floor-is))
-
-  pub attains-units : a ≢ floor → b ≡ floor → Attains (loopOf f) (part.Units class)
-  unfolding loopOf
+  pub attains-units : a ≢ floor → b ≡ floor → Attains g (part.Units class)
   attains-units n e =
-      let here = k .busy .here (omega (arith, k .one)) in
-      units class (λ z. n (omega (arith, k .latency-is, k .floor-is))) (here .0) (omega (arith, here .1, k .floor-is))
-      (λ d l z. omega (arith, k .busy .before d l, k .floor-is))
+      let here = parts .units-is .here (omega (arith, parts .cycle-is, cycle-one g)) in
+      units class (λ z. n (omega (arith, parts .latency-is, floor-is))) (here .0) (omega (arith, here .1, floor-is)) (λ d l z. omega (arith, parts .units-is .before d l, floor-is))
 
-  pub attains-cycle : a ≢ floor → b ≢ floor → Attains (loopOf f) part.Cycle
-  unfolding unitsParts loopOf
+  pub attains-cycle : a ≢ floor → b ≢ floor → Attains g part.Cycle
+  unfolding unitsParts
   attains-cycle n m =
-      cycle-named (loopOf f) (λ z. n (omega (arith, k .latency-is, k .floor-is))) (λ z. m (omega (arith, k .busy .most, k .floor-is)))
+      cycle-named g (λ z. n (omega (arith, parts .latency-is, floor-is))) (λ z. m (omega (arith, parts .units-is .most, floor-is)))
 
 -- ---- a form
 
 none-fine : fine refusal.None ≡ true
 unfolding fine
 none-fine = refl
+
+-- a length below the floor that is not enough
+abbrev pub Below : Form → ℕ → Type 0
+Below f floor = (2 ≤ floor) × (floor - 1 ≤ 512) × (enough (loopOf f) (floor - 1) ≡ false)
 
 -- an answer that no cycle stands beside
 alone-cycle : (g : Loop) (r : Floored) → numberOf (r .refusal) ≢ 12 → partNumber (r .part) ≢ 3 → r .cycle ≡ noCycle → FloorCycle g r
@@ -133,10 +122,11 @@ module _ (f : Form) (free : knotted (loopOf f) ≡ false) where
         filled = breaks .1;
       })
 
-  -- what a cycle that breaks the length below the floor is looked for with
+  -- there is one where (c) attains it
   pub below-short : WellFormed f → (floor : ℕ) → Attains (loopOf f) part.Cycle → floor ≡ floorLength (loopOf f)
-      → (floor - 1 ≤ 512) × (enough (loopOf f) (floor - 1) ≡ false)
+      → Below f floor
   below-short w floor a is = (
+    omega (arith, cycle-two (loopOf f) (sound-form f w) (named-is (loopOf f) part.Cycle a)),
     omega (arith, cycle-attained (loopOf f) a, cycle-512 (loopOf f) (sound-form f w) (unknotted-free (loopOf f) free)),
     rw is (floor-short (loopOf f) (sound-form f w) (named-is (loopOf f) part.Cycle a)),
   )

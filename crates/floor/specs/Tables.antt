@@ -10,7 +10,7 @@ use Rattle.lists.specs.Fold.{count, top}
 use Rattle.form.specs.declared.Form.{Form}
 use Rattle.form.specs.Places.{nodeOf, latencyOf}
 use Rattle.legal.specs.Loop.{Loop}
-use Rattle.floor.specs.Parts.{unitsPart}
+use Rattle.floor.specs.Parts.{latencyPart, unitsPart, cyclePart}
 
 -- the tables hold the class and the latency of each of the first n nodes
 pub record Worked (f : Form) (n : ℕ) (ks ts : List ℕ) : Type 0 where
@@ -34,3 +34,9 @@ pub record Busy (g : Loop) (n part class : ℕ) : Type 0 where
   pub most : part ≡ top (map (unitsPart g) (span 0 n))
   pub here : 0 < part → (class < n) × (unitsPart g class ≡ part)
   pub before : (d : ℕ) → d < class → unitsPart g d < part
+
+-- the three parts, (b) with the lowest class that it is of
+pub record Measured (g : Loop) (latency units class cycle : ℕ) : Type 0 where
+  pub latency-is : latency ≡ latencyPart g
+  pub units-is : Busy g (g .classes) units class
+  pub cycle-is : cycle ≡ cyclePart g

@@ -10,7 +10,7 @@ ghost use Rattle.legal.specs.Loop.{loopOf, runsOn, hold};
 ghost use Rattle.legal.specs.Systems.{knotted, paces};
 ghost use Rattle.floor.specs.Parts.{cyclePart};
 ghost use Rattle.floor.specs.Least.{enough};
-ghost use Rattle.floor.specs.Tables.{Worked, mostOf, howMany, Costed, Busy};
+ghost use Rattle.floor.specs.Tables.{Worked, mostOf, howMany, Costed, Busy, Measured};
 ghost use Rattle.floor.specs.Floor.{partNumber, partClass, FormFloored, RecordFloored};
 use answer::Cycle;
 use answer::Refusal;
@@ -43,6 +43,14 @@ struct Work {
 struct Busiest {
     part: u16,
     class: u8,
+}
+
+// The three parts, (b) with the lowest class that it is of.
+struct AllParts {
+    latency: u16,
+    units: u16,
+    class: u8,
+    cycle: u16,
 }
 
 // The part's number among the answers.
@@ -178,15 +186,17 @@ fn busiest_class(form: Form, kind: &[u8; 64]) -> Busiest
 }
 
 // What the edges cost: the latency of their tails.
-fn costs_of<'a>(edges: u16, tails: &'a [u8; 256], latency: &'a [u8; 64]) -> [u16; 256]
-    requires { ⌜ edges ≤ 256 ⌝ }
-    requires { ⌜ ((e : ℕ) → e < edges → getD (now tails) e 0 < 64) ⌝ }
-    ensures { λ r. ⌜ ((e : ℕ) → e < edges → getD r e 0 ≡ getD (now (latency .entry)) (getD (now (tails .entry)) e 0) 0) ⌝ }
+fn costs_of(form: Form) -> [u16; 256]
+    requires { ⌜ WellFormed form ⌝ }
+    ensures { λ r. ⌜ Costed form r ⌝ }
 {
     let mut costs = [0u16; 256];
+    let edges = form.edges as usize;
     let mut e: usize = 0;
-    while e < edges as usize {
-        costs[e] = wide(latency[tails[e] as usize]);
+    while e < edges {
+        let number = form.node[form.from[e] as usize].class;
+        let class = form.class[number as usize];
+        costs[e] = wide(class.latency);
         e += 1;
     }
     costs
@@ -266,22 +276,38 @@ fn alone(refusal: Refusal, floor: u16, part: Part) -> Floored
     }
 }
 
+// The three parts of a loop without a knot.
+fn parts_of(form: Form, costs: &[u16; 256]) -> AllParts
+    requires { ⌜ WellFormed form ⌝ }
+    requires { ⌜ Costed form (now costs) ⌝ }
+    requires { ⌜ knotted (loopOf form) ≡ false ⌝ }
+    ensures { λ r. ⌜ Measured (loopOf form) (r .latency) (r .units) (r .class) (r .cycle) ⌝ }
+{
+    let work = work_of(form);
+    let latency = wide(largest(form.nodes, &work.latency));
+    let busiest = busiest_class(form, &work.kind);
+    AllParts {
+        latency,
+        units: busiest.part,
+        class: busiest.class,
+        cycle: cycle_part(form, costs),
+    }
+}
+
 // The floor of a loop without a knot.
 fn free_floor(form: Form) -> Floored
     requires { ⌜ WellFormed form ⌝ }
     requires { ⌜ knotted (loopOf form) ≡ false ⌝ }
     ensures { λ r. ⌜ FormFloored form r ⌝ }
 {
-    let work = work_of(form);
-    let latency = wide(largest(form.nodes, &work.latency));
-    let busy = busiest_class(form, &work.kind);
-    let costs = costs_of(form.edges, &form.from, &work.latency);
-    let floor = larger(latency, larger(busy.part, cycle_part(form, &costs)));
-    if latency == floor {
+    let costs = costs_of(form);
+    let parts = parts_of(form, &costs);
+    let floor = larger(parts.latency, larger(parts.units, parts.cycle));
+    if parts.latency == floor {
         return alone(Refusal::None, floor, Part::Latency);
     }
-    if busy.part == floor {
-        return alone(Refusal::None, floor, Part::Units(busy.class as u32));
+    if parts.units == floor {
+        return alone(Refusal::None, floor, Part::Units(parts.class as u32));
     }
     Floored {
         refusal: Refusal::None,

@@ -4,31 +4,49 @@ use mathlib.Core.Path.{_≡_}
 use Prim.Native.Nat.{ℕ, _-_, _≤_, _<_}
 use native.Mathlib.Omega.{arith}
 use lib.ListN.{length, getD}
+use Rattle.form.specs.Places.{latencyOf}
+use Rattle.rules.proofs.Laws.{tailOf, Ends, ends-in}
 use Rattle.knots.proofs.Laws.{filled-more}
 use borrow.Author.Needs.{needs}
 use Rattle.floor.proofs.costs_of.Statement.{statement}
 use Rattle.floor.proofs.costs_of.Tie as tie
 
 abbrev Inv-loop : tie.InvT-loop
-Inv-loop edges tails latency costs₀ e₀ costs e = (e ≤ edges) × (length costs ≡ 256) × ((k : ℕ) → k < e → getD costs k 0 ≡ getD latency (getD tails k 0) 0)
+Inv-loop form costs₀ edges e₀ costs e = (e ≤ edges) × (length costs ≡ 256) × ((k : ℕ) → k < e → getD costs k 0 ≡ latencyOf form (tailOf form k))
 
 abbrev μ-loop : tie.MeasureT-loop
-μ-loop edges tails latency costs₀ e₀ costs e = edges - e
+μ-loop form costs₀ edges e₀ costs e = edges - e
+
+cast-edges : tie.Need-cast-edges Inv-loop μ-loop
+cast-edges c = search needs
 
 loop-holds : tie.Need-loop-holds Inv-loop μ-loop
 loop-holds c = search needs
 
-element-copy-out-wide : tie.Need-element-copy-out-wide Inv-loop μ-loop
-element-copy-out-wide c = search needs
+element-copy-out-number : tie.Need-element-copy-out-number Inv-loop μ-loop
+element-copy-out-number c = search needs
 
-tail-below : (c : tie.After-wide-arg Inv-loop μ-loop) → getD (c .before .before .before .args .tails .now) (c .before .before .loop .e) 0 < 64
-tail-below c = c .before .before .before .pre .1 (c .before .before .loop .e) (omega arith)
+-- the edge's nodes and classes are places of the form
+ends : (c : tie.After-number Inv-loop μ-loop) → Ends (c .before .before .before .args .t1) (c .before .before .loop .e)
+ends c = ends-in _ (c .before .before .before .pre) _ (omega arith)
 
-cast-wide : tie.Need-cast-wide Inv-loop μ-loop
-cast-wide c = omega (arith, tail-below c)
+cast-number : tie.Need-cast-number Inv-loop μ-loop
+cast-number c = omega (arith, ends c .tail-in)
 
-element-copy-out-wide-2 : tie.Need-element-copy-out-wide-2 Inv-loop μ-loop
-element-copy-out-wide-2 c = tail-below c
+mul-number : tie.Need-mul-number Inv-loop μ-loop
+mul-number c = omega (arith, ends c .tail-in)
+
+element-copy-out-number-2 : tie.Need-element-copy-out-number-2 Inv-loop μ-loop
+element-copy-out-number-2 c = omega (arith, ends c .tail-in)
+
+cast-class : tie.Need-cast-class Inv-loop μ-loop
+cast-class c = omega (arith, ends c .class-in)
+
+mul-class : tie.Need-mul-class Inv-loop μ-loop
+mul-class c = omega (arith, ends c .class-in)
+
+element-copy-out-class : tie.Need-element-copy-out-class Inv-loop μ-loop
+element-copy-out-class c = omega (arith, ends c .class-in)
 
 wide-requires : tie.Need-wide-requires Inv-loop μ-loop
 wide-requires c κs = search needs
@@ -48,8 +66,8 @@ loop-less c = search needs
 loop-again : tie.Need-loop-again Inv-loop μ-loop
 loop-again c =
     let l = c .before .before .before .before in
-    let a = l .before .args in
-    (search needs, search needs, filled-more (λ k. getD (a .latency .now) (getD (a .tails .now) k 0) 0) (l .loop .costs) (l .loop .e) _ (omega arith) (c .wide .ensures .0) (l .loop .inv .2))
+    let f = l .before .args .t1 in
+    (search needs, search needs, filled-more (λ k. latencyOf f (tailOf f k)) (l .loop .costs) (l .loop .e) _ (omega arith) (c .wide .ensures .0) (l .loop .inv .2))
 
 returns : tie.Need-returns Inv-loop μ-loop
 returns c = λ e l. c .before .loop .inv .2 e (omega arith)
@@ -60,10 +78,15 @@ costs-of-spec =
     (tie.spec
     Inv-loop
     μ-loop
+    cast-edges
     loop-holds
-    element-copy-out-wide
-    cast-wide
-    element-copy-out-wide-2
+    element-copy-out-number
+    cast-number
+    mul-number
+    element-copy-out-number-2
+    cast-class
+    mul-class
+    element-copy-out-class
     wide-requires
     mul-costs
     array-write-costs

@@ -1,45 +1,21 @@
--- `floor::free_floor` meets its contract: the three parts, the largest of them, and the first that attains it.
+-- `floor::free_floor` meets its contract: the largest of the three parts, and the first that attains it.
 -- Assumes nothing.
-use mathlib.Core.Path.{_∙_}
+use mathlib.Core.Path.{_≡_}
 use native.Mathlib.Omega.{arith}
-use Rattle.form.specs.declared.Form.{Form}
 use Rattle.legal.specs.Loop.{loopOf}
-use Rattle.floor.specs.Tables.{Costed}
-use Rattle.floor.proofs.Answers.{latency-known, Known, known, attains-latency, attains-units, attains-cycle, floored-alone, floored-cycle, below-short}
+use Rattle.floor.specs.declared.Part.the-variants as part
+use Rattle.floor.specs.Parts.{floorLength}
+use Rattle.floor.specs.Named.{Attains}
+use Rattle.floor.proofs.Answers.{floor-is, attains-latency, attains-units, attains-cycle, floored-alone, floored-cycle, Below, below-short}
 use borrow.Author.Needs.{needs}
 use Rattle.floor.proofs.free_floor.Statement.{statement}
 use Rattle.floor.proofs.free_floor.Tie as tie
 
-work-of-requires : tie.Need-work-of-requires
-work-of-requires c κs = search needs
-
-largest-requires : tie.Need-largest-requires
-largest-requires c κs = search needs
-
-wide-requires : tie.Need-wide-requires
-wide-requires c κs = search needs
-
-busiest-class-requires : tie.Need-busiest-class-requires
-unfolding loopOf
-busiest-class-requires c κs =
-    let w = c .before .before .before .before .before .before in
-    (w .before .pre .0, w .work-of .ensures .kind)
-
 costs-of-requires : tie.Need-costs-of-requires
-costs-of-requires c κs =
-    let w = c .before .before .before .before .before .before .before .before .before .before .before .before .pre .0 in
-    (w .edges, λ e l. omega (arith, w .edge e l .from, w .nodes))
+costs-of-requires c κs = search needs
 
--- the costs are the latencies of the edges' tails
-costed : (c : tie.After-costs-of) → Costed (c .before .before .before .before .before .before .before .before .before .before .before .before .before .args .t1) (c .costs-of .result)
-costed c e l =
-    let w = c .before .before .before .before .before .before .before .before .before .before .before .before in
-    c .costs-of .ensures e l ∙ w .work-of .ensures .latency _ (w .before .pre .0 .edge e l .from)
-
-cycle-part-requires : tie.Need-cycle-part-requires
-cycle-part-requires c κs =
-    let a = c .before .before .before .before .before .before .before .before .before .before .before .before .before .before in
-    (a .pre .0, (costed (c .before), a .pre .1))
+parts-of-requires : tie.Need-parts-of-requires
+parts-of-requires c κs = search needs
 
 larger-requires : tie.Need-larger-requires
 larger-requires c κs = search needs
@@ -47,75 +23,81 @@ larger-requires c κs = search needs
 larger-requires-2 : tie.Need-larger-requires-2
 larger-requires-2 c κs = search needs
 
--- the three parts and the largest of them
-worked-out : (c : tie.After-larger2) → Known (c .before .before .before .before .before .before .before .before .before .before .before .before .before .before .before .before .before .args .t1) (c .before .before .before .before .before .before .before .before .before .before .before .before .wide .result) (c .before .before .before .before .before .before .before .before .before .busiest-class .result .part) (c .before .before .before .before .before .before .before .before .before .busiest-class .result .class) (c .larger2 .result)
-worked-out c =
-    let w = c .before .before .before .before .before .before .before .before .before .before .before .before .before .before .before .before in
-    let is = c .before .before .before .before .before .before .before .before .before .before .before .before .wide .ensures .0 ∙ c .before .before .before .before .before .before .before .before .before .before .before .before .before .largest .ensures ∙ latency-known (w .before .args .t1) _ _ (w .work-of .ensures) in
-    known (w .before .args .t1) _ _ _ _ _ _ is (c .before .before .before .before .before .before .before .before .before .busiest-class .ensures) (c .before .before .cycle-part .ensures) (c .before .larger .ensures) (c .larger2 .ensures)
+-- the largest of the three is the floor
+is-floor : (p : tie.After-larger2) → p .larger2 .result ≡ floorLength (loopOf (p .before .before .before .before .before .args .form))
+is-floor p = floor-is _ _ _ _ _ _ _ (p .before .before .parts-of .ensures) (p .before .larger .ensures) (p .larger2 .ensures)
 
 alone-requires : tie.Need-alone-requires
 alone-requires c κs = search needs
 
 returns : tie.Need-returns
 returns c =
-    let p = c .before .before in
-    let a = p .before .before .before .before .before .before .before .before .before .before .before .before .before .before .before .before .before in
-    let k = worked-out p in
-    floored-alone (a .args .t1) (a .pre .1) _ _ _ (omega arith) (attains-latency (a .args .t1) _ _ _ _ k (c .before .if1 .taken)) (k .floor-is) (c .alone .ensures)
+    let p = c .before .before .before in
+    let s = p .before .before .before .before .before in
+    floored-alone (s .args .form) (s .pre .1) _ _ _ (omega arith)
+    (attains-latency _ _ _ _ _ _ _ (p .before .before .parts-of .ensures) (p .before .larger .ensures) (p .larger2 .ensures) (c .before .if1 .taken))
+    (is-floor p) (c .alone .ensures)
 
-cast-t24 : tie.Need-cast-t24
-cast-t24 c = search needs
+cast-t12 : tie.Need-cast-t12
+cast-t12 c = search needs
 
 alone-requires-2 : tie.Need-alone-requires-2
 alone-requires-2 c κs = search needs
 
 returns-2 : tie.Need-returns-2
 returns-2 c =
-    let p = c .before .before .before .before .before in
-    let a = p .before .before .before .before .before .before .before .before .before .before .before .before .before .before .before .before .before in
-    let k = worked-out p in
-    floored-alone (a .args .t1) (a .pre .1) _ _ _ (omega arith) (attains-units (a .args .t1) _ _ _ _ k (c .before .before .before .before .if1 .left) (c .before .before .if2 .taken)) (k .floor-is) (c .alone2 .ensures)
+    let i = c .before .before .before .before in
+    let p = i .before .before in
+    let s = p .before .before .before .before .before in
+    floored-alone (s .args .form) (s .pre .1) _ _ _ (omega arith)
+    (attains-units _ _ _ _ _ _ _ (p .before .before .parts-of .ensures) (p .before .larger .ensures) (p .larger2 .ensures) (i .if1 .left) (c .before .before .if2 .taken))
+    (is-floor p) (c .alone2 .ensures)
 
-cast-t27 : tie.Need-cast-t27
-cast-t27 c = search needs
+cast-t15 : tie.Need-cast-t15
+cast-t15 c = search needs
+
+-- the other parts do not attain it
+by-cycle : (c : tie.After-costs2) → Attains (loopOf (c .before .before .before .before .before .before .before .before .before .before .args .form)) part.Cycle
+by-cycle c =
+    let i = c .before .before .before in
+    let p = i .before .before in
+    attains-cycle _ _ _ _ _ _ _ (p .before .before .parts-of .ensures) (p .before .larger .ensures) (p .larger2 .ensures) (i .if1 .left) (c .before .if2 .left)
+
+-- what holds of the length below it
+below : (c : tie.After-costs2) → Below (c .before .before .before .before .before .before .before .before .before .before .args .form) (c .before .before .before .before .before .larger2 .result)
+below c =
+    let s = c .before .before .before .before .before .before .before .before .before .before in
+    below-short (s .args .form) (s .pre .1) (s .pre .0) _ (by-cycle c) (is-floor (c .before .before .before .before .before))
 
 sub-breaking-cycle : tie.Need-sub-breaking-cycle
-sub-breaking-cycle c = search needs
+sub-breaking-cycle c = omega (arith, below c .0)
 
 breaking-cycle-requires : tie.Need-breaking-cycle-requires
 breaking-cycle-requires c κs =
-    let p = c .before .before .before .before in
-    let a = p .before .before .before .before .before .before .before .before .before .before .before .before .before .before .before .before .before in
-    let k = worked-out p in
-    let short = below-short (a .args .t1) (a .pre .1) (a .pre .0) _ (attains-cycle (a .args .t1) _ _ _ _ k (c .before .before .before .if1 .left) (c .before .if2 .left)) (k .floor-is) in
-    (a .pre .0, (costed (p .before .before .before .before), short))
+    let s = c .before .before .before .before .before .before .before .before .before .before in
+    let b = below c in
+    (s .pre .0, (c .before .before .before .before .before .before .before .before .before .costs-of .ensures, (b .1, b .2)))
 
 returns-3 : tie.Need-returns-3
 returns-3 c =
-    let p = c .before .before .before .before .before in
-    let a = p .before .before .before .before .before .before .before .before .before .before .before .before .before .before .before .before .before in
-    let k = worked-out p in
-    floored-cycle (a .args .t1) (a .pre .1) _ _ (attains-cycle (a .args .t1) _ _ _ _ k (c .before .before .before .before .if1 .left) (c .before .before .if2 .left)) (k .floor-is) (c .breaking-cycle .ensures)
+    let p = c .before .before .before .before .before .before in
+    let s = p .before .before .before .before .before in
+    floored-cycle (s .args .form) (s .pre .1) _ _ (by-cycle (c .before)) (is-floor p) (c .breaking-cycle .ensures)
 
 pub free-floor-spec : {M : Type 1} → statement M
 free-floor-spec =
     tie.close
     (tie.spec
-    work-of-requires
-    largest-requires
-    wide-requires
-    busiest-class-requires
     costs-of-requires
-    cycle-part-requires
+    parts-of-requires
     larger-requires
     larger-requires-2
     alone-requires
     returns
-    cast-t24
+    cast-t12
     alone-requires-2
     returns-2
-    cast-t27
+    cast-t15
     sub-breaking-cycle
     breaking-cycle-requires
     returns-3)
