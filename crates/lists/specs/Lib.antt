@@ -7,3 +7,4 @@ pub mod Place
 pub mod Count
 pub mod Both
 pub mod Counted
+pub mod Sums
