@@ -1,24 +1,26 @@
 -- What the marks tell after so many sweeps: which walks of tight edges there are.
 -- Assumes nothing.
 use mathlib.Core.Path.{_≡_, refl, sym, _∙_, ap, subst}
-use mathlib.Core.Bool.{Bool, true, false, _&&_, false≢true}
+use mathlib.Core.Bool.{Bool, true, false, _&&_, not, false≢true}
 use mathlib.Core.Logic.{_⊎_, inl, inr, ⊎-elim}
 use mathlib.Core.List.{List, [], _∷_, _++_}
-use Prim.Native.Nat.{ℕ, zero, suc, _+_, _≤_, _<_}
+use Prim.Native.Nat.{ℕ, zero, suc, _+_, _-_, _≤_, _<_}
 use native.Mathlib.Omega.{arith}
 use native.Mathlib.Nat.{zero-add, not-suc-le-zero, le-of-suc-le-suc, eq-or-lt-of-le}
 use lib.Dec.{eqb}
 use lib.ListN.{length, getD, set, replicate, length-set, length-replicate}
 use lib.Seq.{getD-set-same}
-use borrow.Author.Tests.{eqb-true, eq-eqb}
+use borrow.Author.Tests.{eqb-true, eq-eqb, ne-eqb}
 use Rattle.lists.specs.Pick.{pick, pick-ind, pick-true}
 use Rattle.lists.specs.Span.{span}
-use Rattle.lists.specs.Fold.{fold, fold-snoc}
+use Rattle.lists.specs.Fold.{sumOf, count, count-snoc, fold, fold-snoc}
+use Rattle.lists.specs.Count.{count-same}
 use Rattle.lists.specs.Place.{set-view, zeros-at}
 use Rattle.system.specs.Graph.{Graph, Joined, Walk}
-use Rattle.system.specs.Walks.{walk-join}
+use Rattle.system.specs.System.{System, gains, costs}
+use Rattle.system.specs.Walks.{walk-join, shorten}
 use Rattle.legal.specs.Loop.{Loop}
-use Rattle.reach.specs.Weight.{tight, spread, sweep, reach, reachedFrom}
+use Rattle.reach.specs.Weight.{tight, spread, sweep, reach, reachedFrom, weight}
 
 abbrev pub Marked : List ℕ → ℕ → Type 0
 Marked m v = getD m v 0 ≡ 1
@@ -39,6 +41,44 @@ both : (a b : Bool) → (a && b) ≡ true → (a ≡ true) × (b ≡ true)
 both true true e = (refl, refl)
 both true false e = (refl, e)
 both false b e = absurd (false≢true e)
+
+-- a sum is 0 exactly when each of its terms is
+sum-zero : (f : ℕ → ℕ) (es : List ℕ) → ((i : ℕ) → i < length es → f (getD es i 0) ≡ 0) → sumOf f es ≡ 0
+unfolding sumOf
+sum-zero f [] h = refl
+sum-zero f (e ∷ es) h = omega (arith, h 0 (omega arith), sum-zero f es (λ i l. h (suc i) (omega arith)))
+
+zero-sum : (f : ℕ → ℕ) (es : List ℕ) → sumOf f es ≡ 0 → (i : ℕ) → i < length es → f (getD es i 0) ≡ 0
+unfolding sumOf
+zero-sum f [] h i l = absurd (not-suc-le-zero l)
+zero-sum f (e ∷ es) h zero l = omega arith
+zero-sum f (e ∷ es) h (suc i) l = zero-sum f es (omega arith) i (le-of-suc-le-suc l)
+
+count-last : (f : ℕ → Bool) (n : ℕ) → count f (span 0 (suc n)) ≡ count f (span 0 n) + pick (f n) 1 0
+count-last f n = count-snoc f 0 n ∙ rw zero-add
+
+-- a number that counts, taken off: the count of the others
+module _ (f : ℕ → Bool) (v : ℕ) (h : f v ≡ true) where
+  abbrev pub others : ℕ → Bool
+  others u = not (eqb u v) && f u
+
+  others-other : (u : ℕ) → (u ≡ v → ⊥) → others u ≡ f u
+  others-other u ne = rw (ne-eqb u v ne)
+
+  others-self : (u : ℕ) → u ≡ v → others u ≡ false
+  others-self u e = rw (eq-eqb u v e)
+
+  count-others : (n : ℕ) → v < n → count f (span 0 n) ≡ count others (span 0 n) + 1
+  unfolding pick
+  count-others zero l = absurd (not-suc-le-zero l)
+  count-others (suc n) l =
+      ⊎-elim
+      (λ same.
+      let it : f n ≡ true = subst (λ (a : ℕ). f a ≡ true) same h in
+      let before : count others (span 0 n) ≡ count f (span 0 n) = count-same others f n (λ u q. others-other u (λ e. omega arith)) in
+      omega (arith, rw it at (count-last f n), rw (others-self n (sym same)) at (count-last others n)))
+      (λ less. omega (arith, count-last f n, rw (others-other n (λ e. omega arith)) at (count-last others n), count-others n less))
+      (eq-or-lt-of-le (le-of-suc-le-suc l))
 
 module _ (g : Loop) (r : ℕ → ℕ) where
   -- edge numbers, all tight, that lead from v to u
@@ -161,3 +201,59 @@ module _ (g : Loop) (r : ℕ → ℕ) where
     walk-reached k v es u inside l w =
         along-reached k (only v) v es u (length-set (replicate 64 0) v 1 ∙ length-replicate {A = ℕ} 64 0)
         (getD-set-same (replicate 64 0) v 1 0 (omega (arith, length-replicate {A = ℕ} 64 0))) l (w .walk) (w .all-tight)
+
+  -- ---- short walks are enough
+
+  -- the system in which an edge that is not tight gains 1 and nothing costs: a walk is tight where it gains 0
+  abbrev slack : System
+  slack = record { graph = g .graph; gain = λ e. pick (tight g r e) 0 1; cost = λ e. 0 }
+
+  tight-gain : (e : ℕ) → tight g r e ≡ true → _≡_ {A = ℕ} (pick (tight g r e) 0 1) 0
+  tight-gain e t = pick-true (tight g r e) 0 1 t
+
+  gain-tight : (e : ℕ) → _≡_ {A = ℕ} (pick (tight g r e) 0 1) 0 → tight g r e ≡ true
+  unfolding pick
+  gain-tight e h = go (tight g r e) h
+    where
+      go : (b : Bool) → _≡_ {A = ℕ} (pick b 0 1) 0 → b ≡ true
+      go true q = refl
+      go false q = absurd (omega arith)
+
+  costs-nothing : (es : List ℕ) → costs slack es ≡ 0
+  unfolding costs
+  costs-nothing es = sum-zero (λ e. 0) es (λ i l. refl)
+
+  module _ (j : Joined (g .graph)) (v : ℕ) (inside : v < g .graph .nodes) where
+    -- a walk of tight edges can be made shorter than the loop has nodes
+    pub walk-short : (es : List ℕ) (u : ℕ) → TightWalk v es u → (fs : List ℕ) × TightWalk v fs u × (length fs < g .graph .nodes)
+    unfolding gains
+    walk-short es u w =
+        ⊎-elim (λ q. absurd (omega (arith, q .1 .loss, costs-nothing (q .0))))
+        (λ s.
+        let none : gains slack (s .path) ≡ 0 = omega (
+          arith,
+          s .better,
+          costs-nothing (s .path),
+          sum-zero (slack .gain) es (λ i l. tight-gain (getD es i 0) (w .all-tight i l)),
+        ) in
+        (s .path, record { walk = s .walk; all-tight = λ i l. gain-tight (getD (s .path) i 0) (zero-sum (slack .gain) (s .path) none i l) }, s .few))
+        (shorten slack j (length es) v es u (omega arith) inside (w .walk))
+
+    -- a marked node is reached over fewer edges than the loop has nodes
+    pub reached-near : (u : ℕ) → Marked (reachedFrom g r v) u → (es : List ℕ) × TightWalk v es u × (length es < g .graph .nodes)
+    unfolding reachedFrom
+    reached-near u h = let p = reached-walk (g .graph .nodes) v u h in walk-short (p .0) u (p .1)
+
+    -- and every node that any walk of tight edges leads to is marked
+    pub reached-all : g .graph .nodes ≤ 64 → (es : List ℕ) (u : ℕ) → TightWalk v es u → Marked (reachedFrom g r v) u
+    unfolding reachedFrom
+    reached-all few es u w =
+        let p = walk-short es u w in
+        walk-reached j few (g .graph .nodes) v (p .0) u (omega arith) (omega (arith, p .2)) (p .1)
+
+    -- a weight counts the other nodes that are marked
+    pub weight-others : g .graph .nodes ≤ 64 → weight g r v ≡ count (λ u. not (eqb u v) && eqb (getD (reachedFrom g r v) u 0) 1) (span 0 (g .graph .nodes))
+    unfolding weight
+    weight-others few =
+        let self : Marked (reachedFrom g r v) v = reached-all few [] v (record { walk = refl; all-tight = λ i l. absurd (not-suc-le-zero l) }) in
+        omega (arith, count-others (λ u. eqb (getD (reachedFrom g r v) u 0) 1) v (eq-eqb _ _ self) (g .graph .nodes) inside)
