@@ -5,3 +5,5 @@ pub mod First
 pub mod Pigeon
 pub mod Place
 pub mod Count
+pub mod Quotient
+pub mod Inject

@@ -2,3 +2,5 @@ pub mod Values
 pub mod Plain
 pub mod Run
 pub mod Worked
+pub mod Reads
+pub mod Unique
