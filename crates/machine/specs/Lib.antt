@@ -4,3 +4,4 @@ pub mod Run
 pub mod Worked
 pub mod Reads
 pub mod Unique
+pub mod Moments
