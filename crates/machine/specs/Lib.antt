@@ -5,3 +5,4 @@ pub mod Worked
 pub mod Reads
 pub mod Unique
 pub mod Moments
+pub mod Visits
