@@ -6,3 +6,4 @@ pub mod Reads
 pub mod Unique
 pub mod Moments
 pub mod Visits
+pub mod Sofar
