@@ -7,3 +7,4 @@ pub mod Unique
 pub mod Moments
 pub mod Visits
 pub mod Sofar
+pub mod Issued
