@@ -8,3 +8,4 @@ pub mod Moments
 pub mod Visits
 pub mod Sofar
 pub mod Issued
+pub mod NotStuck

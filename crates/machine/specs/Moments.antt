@@ -91,11 +91,11 @@ module _ (g : Loop) (p : Pair) (s : Sound g) (b : Placed g p) (starts : List ℕ
       (omega arith, omega (arith, rows-below (i + depth g p - p .retiming v) (k + depth g p) (p .length) (omega arith)))
 
   -- so its moment comes before the run's end
-  pub moment-within : (i v : ℕ) → i < k → v < g .graph .nodes → moment g p i v < (1 + runSteps g p starts k) * g .graph .nodes
+  pub moment-within : (i v : ℕ) → i < k → v < g .graph .nodes → moment g p i v < suc (runSteps g p starts k) * g .graph .nodes
   unfolding moment
   moment-within i v h l =
       let w = step-within i v h l in
-      omega (arith, rows-below (issueStep g p i v) (1 + runSteps g p starts k) (g .graph .nodes) (omega arith))
+      omega (arith, rows-below (issueStep g p i v) (suc (runSteps g p starts k)) (g .graph .nodes) (omega arith))
 
   -- a repetition and a node tell the iteration
   pub rep-apart : (i j v : ℕ) → v < g .graph .nodes → repOf g p i v ≡ repOf g p j v → i ≡ j
