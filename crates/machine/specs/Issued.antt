@@ -70,7 +70,7 @@ module _ (g : Loop) (p : Pair) (s : Sound g) (b : Placed g p) (starts : List ℕ
         let earlier : moment g p (j - g .delay e) u < moment g p j w = step-before g p (j - g .delay e) j u w (s .joined .tails e a) (omega arith) in
         sym (stored-other xs (j - g .delay e) u (s .joined .tails e a) (omega arith)))
 
-  step-moment : (t v i : ℕ) → issueStep g p i v ≡ t → moment g p i v ≡ t * g .graph .nodes + v
+  pub step-moment : (t v i : ℕ) → issueStep g p i v ≡ t → moment g p i v ≡ t * g .graph .nodes + v
   unfolding moment
   step-moment t v i e = ap (λ (x : ℕ). x * g .graph .nodes + v) e
 

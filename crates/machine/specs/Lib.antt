@@ -9,3 +9,5 @@ pub mod Visits
 pub mod Sofar
 pub mod Issued
 pub mod NotStuck
+pub mod Timing
+pub mod Accepted
