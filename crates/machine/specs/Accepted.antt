@@ -89,3 +89,45 @@ module _ (g : Loop) (p : Pair) (s : Sound g) (classed : Classed g) (legal : Lega
           count-without (occupies g p (runsOn g v) (p .start v)) (g .graph .nodes) v l own,
           count-inject (holding g p starts k (moment g p i v) (runsOn g v) (issueStep g p i v)) others (k * g .graph .nodes) (g .graph .nodes) (λ at. at % g .graph .nodes) goes-to apart,
         )
+
+  module _ (values finish : List ℕ) (room : k * g .graph .nodes ≤ length values) (room′ : k * g .graph .nodes ≤ length finish) where
+    legal-clear : (t v : ℕ) (m : Machine) → 1 ≤ t → v < g .graph .nodes → Sofar g p starts k (blank g k values finish) (t * g .graph .nodes + v) m
+        → issues g p starts k t v ≡ true → Clear g p starts k t v m
+    legal-clear t v m one l f q =
+        let b : Placed g p = legal-placed g p legal in
+        let m₀ : Machine = blank g k values finish in
+        let n : ℕ = t * g .graph .nodes + v in
+        let i : ℕ = iteration g p starts k t v in
+        let at : IssuedAt g p s b starts k t v i = issues-step g p s b starts k t v one l q in
+        let now : moment g p i v ≡ n = step-moment g p s b starts k m₀ t v i (at .step) in
+        let roomy : holders g p starts k n (runsOn g v) t < g .class (runsOn g v) .units = rw (now, at .step) at (legal-roomy i v l) in
+        record {
+          timely = ready-timely g p s starts k m₀ n m f t v i (at .is-one) l refl (at .step) now (legal-ready i v l);
+          unit = omega (arith, held-is g p s starts k m₀ n m f (runsOn g v) t);
+        }
+
+    clear-none : (t v : ℕ) (m r : Machine) → Visited g p starts k t v m r → m .refusal ≡ None → (issues g p starts k t v ≡ true → Clear g p starts k t v m) → r .refusal ≡ None
+    unfolding written
+    clear-none t v m r (idle q) none clear = none
+    clear-none t v m r (stuck r′ q not-clear z) none clear = absurd (not-clear (clear q))
+    clear-none t v m r (goes q c) none clear = refl
+
+    legal-keeps : (t v : ℕ) (m : Machine) → 1 ≤ t → v < g .graph .nodes
+        → (m .refusal ≡ None) × Sofar g p starts k (blank g k values finish) (t * g .graph .nodes + v) m
+        → (visit g p starts k t m v .refusal ≡ None) × Sofar g p starts k (blank g k values finish) (suc (t * g .graph .nodes + v)) (visit g p starts k t m v)
+    unfolding fine
+    legal-keeps t v m one l h =
+        let before : fine (m .refusal) ≡ true = ap fine (h .0) in
+        let none : visit g p starts k t m v .refusal ≡ None = clear-none t v m (visit g p starts k t m v) (visited g p starts k t v m before) (h .0) (legal-clear t v m one l (h .1)) in
+        (none, keeps g p s (legal-placed g p legal) starts k values finish room room′ t v m one l before (ap fine none) (h .1))
+
+    -- the run of a legal pair is never refused
+    pub accepted : runOf g p starts k values finish .refusal ≡ None
+    unfolding runOf blank
+    accepted =
+        through-steps g p starts k (λ n m. (m .refusal ≡ None) × Sofar g p starts k (blank g k values finish) n m) legal-keeps
+        (runSteps g p starts k) (blank g k values finish) (refl, begins g p s (legal-placed g p legal) starts k values finish room room′) .0
+
+    -- and its values are the plain loop's
+    pub accepted-plain : PlainLoop g starts k (runOf g p starts k values finish .values)
+    accepted-plain = run-plain g p s (legal-placed g p legal) starts k values finish room room′ accepted
