@@ -7,3 +7,6 @@ pub mod Place
 pub mod Count
 pub mod Quotient
 pub mod Inject
+pub mod Last
+pub mod Tests
+pub mod Mapped

@@ -11,3 +11,4 @@ pub mod Issued
 pub mod NotStuck
 pub mod Timing
 pub mod Accepted
+pub mod Refused

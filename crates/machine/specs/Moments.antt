@@ -1,30 +1,20 @@
 -- When each node of each iteration is issued: its run step, and its moment among all visits of nodes in run steps.
 -- Assumes nothing.
-use mathlib.Core.Path.{_≡_, refl, sym, _∙_, ap}
-use mathlib.Core.Bool.{Bool, true, false, _&&_, false≢true}
-use mathlib.Core.List.{List, [], _∷_, map}
-use Prim.Native.Nat.{ℕ, zero, suc, _+_, _-_, _*_, _/_, _%_, _≤_, _<_}
+use mathlib.Core.Path.{_≡_, sym, _∙_, ap}
+use mathlib.Core.Bool.{true}
+use mathlib.Core.List.{List, map}
+use Prim.Native.Nat.{ℕ, suc, _+_, _-_, _*_, _/_, _%_, _≤_, _<_}
 use native.Mathlib.Omega.{arith}
-use native.Mathlib.Nat.{add-zero, zero-add, add-suc, suc-add, not-suc-le-zero, le-of-suc-le-suc, add-mul, div-add-mod', mod-lt}
+use native.Mathlib.Nat.{zero-add, div-add-mod'}
 use borrow.Author.Tests.{eqb-true, leb-true, ltb-true, eq-eqb, le-leb, lt-ltb}
-use lib.Dec.{eqb, leb, ltb}
-use lib.ListN.{getD}
+use Rattle.lists.specs.Tests.{both}
 use Rattle.lists.specs.Span.{span}
-use Rattle.lists.specs.Fold.{top, top-over}
-use Rattle.lists.specs.Quotient.{divided, rows-below, rows-within, rows-apart}
+use Rattle.lists.specs.Mapped.{mapped-at}
+use Rattle.lists.specs.Fold.{top-over}
+use Rattle.lists.specs.Quotient.{divided, rows-below, rows-apart}
 use Rattle.legal.specs.Loop.{Loop, Pair}
 use Rattle.legal.specs.Shape.{Sound, Placed}
 use Rattle.machine.specs.Run.{depth, bodyStep, repetition, issues, iteration, runSteps}
-
-pub both : (a b : Bool) → a && b ≡ true → (a ≡ true) × (b ≡ true)
-both true b e = (refl, e)
-both false b e = absurd (false≢true e)
-
-mapped-at : (f : ℕ → ℕ) (a n i : ℕ) → i < n → getD (map f (span a n)) i 0 ≡ f (a + i)
-unfolding span
-mapped-at f a zero i l = absurd (not-suc-le-zero l)
-mapped-at f a (suc n) zero l = rw add-zero
-mapped-at f a (suc n) (suc i) l = rw (add-suc, ← suc-add) (mapped-at f (suc a) n i (le-of-suc-le-suc l))
 
 -- no retiming is above the depth
 pub under-depth : (g : Loop) (p : Pair) (v : ℕ) → v < g .graph .nodes → p .retiming v ≤ depth g p

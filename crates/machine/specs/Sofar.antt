@@ -1,7 +1,7 @@
 -- What a machine that goes holds at a moment of its run: what comes before is issued, the rest is clear.
 -- Assumes nothing.
 use mathlib.Core.Path.{_≡_, refl, sym, _∙_, ap}
-use mathlib.Core.Bool.{Bool, true, false, _&&_, _||_, not, true≢false}
+use mathlib.Core.Bool.{Bool, true, false, _&&_, _||_, not}
 use mathlib.Core.Logic.{_≢_}
 use mathlib.Core.List.{List}
 use Prim.Native.Nat.{ℕ, zero, suc, _+_, _-_, _*_, _/_, _%_, _≤_, _<_}
@@ -11,6 +11,7 @@ use native.Mathlib.Nat.{add-sub-cancel}
 use borrow.Author.Tests.{eqb-true, eqb-false, ltb-false, eq-eqb, ne-eqb, lt-ltb, le-ltb}
 use lib.Dec.{eqb, ltb}
 use lib.ListN.{length, getD}
+use Rattle.lists.specs.Tests.{neither}
 use Rattle.lists.specs.Span.{span}
 use Rattle.lists.specs.Fold.{count}
 use Rattle.lists.specs.First.{firstFrom, first-is, first-past}
@@ -67,10 +68,6 @@ module _ (g : Loop) (p : Pair) (starts : List ℕ) (k : ℕ) where
 pub step-before : (g : Loop) (p : Pair) (i j u v : ℕ) → u < g .graph .nodes → issueStep g p i u < issueStep g p j v → moment g p i u < moment g p j v
 unfolding moment
 step-before g p i j u v l h = omega (arith, rows-below (issueStep g p i u) (issueStep g p j v) (g .graph .nodes) h)
-
-neither : (a b : Bool) → a || b ≡ false → (a ≡ false) × (b ≡ false)
-neither true b e = absurd (true≢false e)
-neither false b e = (refl, e)
 
 module _ (g : Loop) (p : Pair) (s : Sound g) (starts : List ℕ) (k : ℕ) (m₀ : Machine) (n : ℕ) (m : Machine) (f : Sofar g p starts k m₀ n m) where
   holds-is : (c t at : ℕ) → at < k * g .graph .nodes → holds g p starts k (m .finish) c t at ≡ holding g p starts k n c t at

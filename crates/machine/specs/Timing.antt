@@ -9,6 +9,7 @@ use native.Mathlib.Decide.{decLt}
 use native.Mathlib.Nat.{add-mul, mul-comm}
 use borrow.Author.Tests.{eqb-true, leb-true, ltb-true, eq-eqb, le-leb, lt-ltb}
 use lib.Dec.{eqb, leb, ltb}
+use Rattle.lists.specs.Tests.{both}
 use Rattle.lists.specs.Pick.{pick-ind}
 use Rattle.lists.specs.Quotient.{rows-below}
 use Rattle.form.specs.declared.Class.{Class}
@@ -16,7 +17,7 @@ use Rattle.legal.specs.Loop.{Loop, Pair, runsOn, latency, hold}
 use Rattle.legal.specs.Legal.{EdgeRule, occupies}
 use Rattle.legal.specs.Shape.{Sound, Placed}
 use Rattle.machine.specs.Run.{depth}
-use Rattle.machine.specs.Moments.{both, under-depth, repOf, issueStep, moment, in-body}
+use Rattle.machine.specs.Moments.{under-depth, repOf, issueStep, moment, in-body}
 use Rattle.machine.specs.Sofar.{holding}
 
 hold-short : (c : Class) → 1 ≤ c .latency → hold c ≤ c .latency
