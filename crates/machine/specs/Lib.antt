@@ -12,3 +12,4 @@ pub mod NotStuck
 pub mod Timing
 pub mod Accepted
 pub mod Refused
+pub mod Judges
