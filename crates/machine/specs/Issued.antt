@@ -76,65 +76,65 @@ module _ (g : Loop) (p : Pair) (s : Sound g) (b : Placed g p) (starts : List ℕ
 
   module _ (room : k * g .graph .nodes ≤ length (m₀ .values)) (room′ : k * g .graph .nodes ≤ length (m₀ .finish)) (t v : ℕ) (m : Machine) (l : v < g .graph .nodes)
       (f : Sofar g p starts k m₀ (t * g .graph .nodes + v) m) where
-    -- the node's own place after its issue
-    issued-now : (i : ℕ) → iteration g p starts k t v ≡ i → IssuedAt g p s b starts k t v i → Clear g p starts k t v m → Issued g p starts k (written g p starts k t v m) i v
-    unfolding written
-    issued-now i is at c =
-        let now : moment g p i v ≡ t * g .graph .nodes + v = step-moment t v i (at .step) in
-        let fits = rows-below i k (g .graph .nodes) (at .is-one) in
-        let n : ℕ = t * g .graph .nodes + v in
-        let r : Ready g p starts k i v = timely-ready g p s starts k m₀ n m f t v i (at .is-one) l is (at .step) now (c .timely) in
-        rw is (record {
-          finish-is = getD-set-same (m .finish) (placeOf g starts i v) (t + latency g v) 0 (omega (arith, f .finish-length)) ∙ omega (arith, at .step);
-          value-is = getD-set-same (m .values) (placeOf g starts i v) (computed g starts (m .values) i v) 0 (omega (arith, f .values-length))
-              ∙ computed-stays n m f i v (computed g starts (m .values) i v) (at .is-one) l now (m .values) i v (omega arith) r;
-          ready = r;
-          roomy = rw (now, at .step) (omega (arith, c .unit, held-is g p s starts k m₀ n m f (runsOn g v) t));
-        })
+    module _ (at : IssuedAt g p s b starts k t v (iteration g p starts k t v)) where
+      now : moment g p (iteration g p starts k t v) v ≡ t * g .graph .nodes + v
+      now = step-moment t v (iteration g p starts k t v) (at .step)
 
-    -- what was issued before stays so
-    issued-still : (i : ℕ) → iteration g p starts k t v ≡ i → IssuedAt g p s b starts k t v i → (j w : ℕ) → j < k → w < g .graph .nodes
-        → moment g p j w < t * g .graph .nodes + v → Issued g p starts k (written g p starts k t v m) j w
-    unfolding written
-    issued-still i is at j w one a h =
-        let now : moment g p i v ≡ t * g .graph .nodes + v = step-moment t v i (at .step) in
-        let n : ℕ = t * g .graph .nodes + v in
-        let d = f .done j w one a h in
-        rw is (record {
-          finish-is = stored-other n m f i v _ (at .is-one) l now (m .finish) j w a (omega arith) ∙ d .finish-is;
-          value-is = stored-other n m f i v _ (at .is-one) l now (m .values) j w a (omega arith)
-              ∙ d .value-is
-              ∙ computed-stays n m f i v _ (at .is-one) l now (m .values) j w (omega arith) (d .ready);
-          ready = d .ready;
-          roomy = d .roomy;
-        })
+      -- the node's own place after its issue
+      issued-now : Clear g p starts k t v m → Issued g p starts k (written g p starts k t v m) (iteration g p starts k t v) v
+      unfolding written
+      issued-now c =
+          let i : ℕ = iteration g p starts k t v in
+          let n : ℕ = t * g .graph .nodes + v in
+          let fits = rows-below i k (g .graph .nodes) (at .is-one) in
+          let r : Ready g p starts k i v = timely-ready g p s starts k m₀ n m f t v i (at .is-one) l refl (at .step) now (c .timely) in
+          record {
+            finish-is = getD-set-same (m .finish) (placeOf g starts i v) (t + latency g v) 0 (omega (arith, f .finish-length)) ∙ omega (arith, at .step);
+            value-is = getD-set-same (m .values) (placeOf g starts i v) (computed g starts (m .values) i v) 0 (omega (arith, f .values-length))
+                ∙ computed-stays n m f i v (computed g starts (m .values) i v) (at .is-one) l now (m .values) i v (omega (arith, now)) r;
+            ready = r;
+            roomy = rw (now, at .step) (omega (arith, c .unit, held-is g p s starts k m₀ n m f (runsOn g v) t));
+          }
 
-    goes-keeps : (i : ℕ) → iteration g p starts k t v ≡ i → IssuedAt g p s b starts k t v i → Clear g p starts k t v m
-        → Sofar g p starts k m₀ (suc (t * g .graph .nodes + v)) (written g p starts k t v m)
-    unfolding written
-    goes-keeps i is at c =
-        let n : ℕ = t * g .graph .nodes + v in
-        let now : moment g p i v ≡ n = step-moment t v i (at .step) in
-        let x : ℕ = computed g starts (m .values) (iteration g p starts k t v) v in
-        let at′ : placeOf g starts (iteration g p starts k t v) v ≡ placeOf g starts i v = ap (λ (y : ℕ). placeOf g starts y v) is in
-        record {
-          values-length = length-set (m .values) _ _ ∙ f .values-length;
-          finish-length = length-set (m .finish) _ _ ∙ f .finish-length;
-          done = λ j w one a h. ⊎-elim
-              (λ e. let y = moment-apart g p s b starts k j i w v a l (e ∙ sym now) in
-              subst₂ (Issued g p starts k (written g p starts k t v m)) (sym (y .0)) (sym (y .1)) (issued-now i is at c))
-              (λ e. issued-still i is at j w one a e)
-              (eq-or-lt-of-le (le-of-suc-le-suc h));
-          undone = λ j w one a h. record {
-            no-finish = rw at′ (stored-other n m f i v _ (at .is-one) l now (m .finish) j w a (omega arith)) ∙ f .undone j w one a (omega arith) .no-finish;
-            no-value = rw at′ (stored-other n m f i v x (at .is-one) l now (m .values) j w a (omega arith)) ∙ f .undone j w one a (omega arith) .no-value;
-          };
-          rest-values = λ y h. rw at′ (stored-rest n m f i v x (at .is-one) l now (m .values) y h) ∙ f .rest-values y h;
-          rest-finish = λ y h. rw at′ (stored-rest n m f i v _ (at .is-one) l now (m .finish) y h) ∙ f .rest-finish y h;
-        }
+      -- what was issued before stays so
+      issued-still : (j w : ℕ) → j < k → w < g .graph .nodes → moment g p j w < t * g .graph .nodes + v → Issued g p starts k (written g p starts k t v m) j w
+      unfolding written
+      issued-still j w one a h =
+          let i : ℕ = iteration g p starts k t v in
+          let n : ℕ = t * g .graph .nodes + v in
+          let d = f .done j w one a h in
+          record {
+            finish-is = stored-other n m f i v _ (at .is-one) l now (m .finish) j w a (omega arith) ∙ d .finish-is;
+            value-is = stored-other n m f i v _ (at .is-one) l now (m .values) j w a (omega arith)
+                ∙ d .value-is
+                ∙ computed-stays n m f i v _ (at .is-one) l now (m .values) j w (omega arith) (d .ready);
+            ready = d .ready;
+            roomy = d .roomy;
+          }
+
+      goes-keeps : Clear g p starts k t v m → Sofar g p starts k m₀ (suc (t * g .graph .nodes + v)) (written g p starts k t v m)
+      unfolding written
+      goes-keeps c =
+          let i : ℕ = iteration g p starts k t v in
+          let n : ℕ = t * g .graph .nodes + v in
+          record {
+            values-length = length-set (m .values) _ _ ∙ f .values-length;
+            finish-length = length-set (m .finish) _ _ ∙ f .finish-length;
+            done = λ j w one a h. ⊎-elim
+                (λ e. let y = moment-apart g p s b starts k j i w v a l (e ∙ sym now) in
+                subst₂ (Issued g p starts k (written g p starts k t v m)) (sym (y .0)) (sym (y .1)) (issued-now c))
+                (λ e. issued-still j w one a e)
+                (eq-or-lt-of-le (le-of-suc-le-suc h));
+            undone = λ j w one a h. record {
+              no-finish = stored-other n m f i v _ (at .is-one) l now (m .finish) j w a (omega arith) ∙ f .undone j w one a (omega arith) .no-finish;
+              no-value = stored-other n m f i v _ (at .is-one) l now (m .values) j w a (omega arith) ∙ f .undone j w one a (omega arith) .no-value;
+            };
+            rest-values = λ y h. stored-rest n m f i v _ (at .is-one) l now (m .values) y h ∙ f .rest-values y h;
+            rest-finish = λ y h. stored-rest n m f i v _ (at .is-one) l now (m .finish) y h ∙ f .rest-finish y h;
+          }
 
     -- what a visit makes of it, unless it is refused
     pub visited-keeps : 1 ≤ t → (r : Machine) → Visited g p starts k t v m r → fine (r .refusal) ≡ true → Sofar g p starts k m₀ (suc (t * g .graph .nodes + v)) r
     visited-keeps one r (idle q) h = idle-keeps t v m l q f
-    visited-keeps one r (stuck r′ q no-clear z) h = both-ways h z
-    visited-keeps one r (goes q c) h = goes-keeps (iteration g p starts k t v) refl (issues-step g p s b starts k t v one l q) c
+    visited-keeps one r (stuck r′ q not-clear z) h = both-ways h z
+    visited-keeps one r (goes q c) h = goes-keeps (issues-step g p s b starts k t v one l q) c
