@@ -12,7 +12,7 @@ use Rattle.lists.specs.Span.{span}
 use Rattle.lists.specs.Fold.{count, count-snoc}
 use Rattle.lists.specs.First.{firstFrom, first-is}
 
-count-last : (f : ℕ → Bool) (n : ℕ) → count f (span 0 (suc n)) ≡ count f (span 0 n) + pick (f n) 1 0
+pub count-last : (f : ℕ → Bool) (n : ℕ) → count f (span 0 (suc n)) ≡ count f (span 0 n) + pick (f n) 1 0
 count-last f n = count-snoc f 0 n ∙ rw zero-add
 
 implied : (a b : Bool) → (a ≡ true → b ≡ true) → pick a 1 0 ≤ pick b 1 0

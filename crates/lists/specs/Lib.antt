@@ -8,3 +8,8 @@ pub mod Count
 pub mod Both
 pub mod Counted
 pub mod Sums
+pub mod Quotient
+pub mod Inject
+pub mod Last
+pub mod Tests
+pub mod Mapped

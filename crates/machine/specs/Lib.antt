@@ -2,3 +2,14 @@ pub mod Values
 pub mod Plain
 pub mod Run
 pub mod Worked
+pub mod Reads
+pub mod Unique
+pub mod Moments
+pub mod Visits
+pub mod Sofar
+pub mod Issued
+pub mod NotStuck
+pub mod Timing
+pub mod Accepted
+pub mod Refused
+pub mod Judges

@@ -1,0 +1,14 @@
+-- What stands in a run of numbers that a function was applied to.
+-- Assumes nothing.
+use mathlib.Core.Path.{_≡_}
+use mathlib.Core.List.{map}
+use Prim.Native.Nat.{ℕ, zero, suc, _+_, _<_}
+use native.Mathlib.Nat.{add-zero, add-suc, suc-add, not-suc-le-zero, le-of-suc-le-suc}
+use lib.ListN.{getD}
+use Rattle.lists.specs.Span.{span}
+
+pub mapped-at : (f : ℕ → ℕ) (a n i : ℕ) → i < n → getD (map f (span a n)) i 0 ≡ f (a + i)
+unfolding span
+mapped-at f a zero i l = absurd (not-suc-le-zero l)
+mapped-at f a (suc n) zero l = rw add-zero
+mapped-at f a (suc n) (suc i) l = rw (add-suc, ← suc-add) (mapped-at f (suc a) n i (le-of-suc-le-suc l))

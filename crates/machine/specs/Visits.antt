@@ -1,0 +1,84 @@
+-- What one visit of a node does, and what holds through all visits of a run.
+-- Assumes nothing.
+use mathlib.Core.Path.{_≡_, refl, sym, subst}
+use mathlib.Core.Bool.{Bool, true, false}
+use mathlib.Core.List.{List}
+use Prim.Native.Nat.{ℕ, zero, suc, _+_, _*_, _≤_, _<_}
+use native.Mathlib.Omega.{arith}
+use native.Mathlib.Nat.{add-zero, zero-add, add-suc, suc-mul, one-mul, not-le-of-lt}
+use borrow.Author.Tests.{ltb-true, ltb-false}
+use lib.Dec.{ltb}
+use lib.ListN.{set}
+use Rattle.lists.specs.Pick.{pick, pick-ind, pick-true, pick-false, both-ways}
+use Rattle.lists.specs.Span.{span}
+use Rattle.lists.specs.Fold.{fold, fold-snoc}
+use Rattle.answer.specs.Refused.{fine}
+use Rattle.answer.specs.declared.Refusal.{Refusal}
+use Rattle.answer.specs.declared.Refusal.the-variants.{None, Early, Busy}
+use Rattle.legal.specs.Loop.{Loop, Pair, runsOn, latency}
+use Rattle.machine.specs.Values.{placeOf, computed}
+use Rattle.machine.specs.Run.{Machine, issues, iteration, lateEdge, held, issue, visit, stepOf, ran}
+
+module _ (g : Loop) (p : Pair) (starts : List ℕ) (k : ℕ) where
+  -- node v finds its operands finished and a unit in run step t
+  pub record Clear (t v : ℕ) (m : Machine) : Type 0 where
+    pub timely : g .graph .edges ≤ lateEdge g p starts k (m .finish) t v
+    pub unit : held g p starts k (m .finish) (runsOn g v) t < g .class (runsOn g v) .units
+
+  -- the machine with node v issued in run step t
+  unfoldable pub written : ℕ → ℕ → Machine → Machine
+  written t v m = record {
+    values = set (m .values) (placeOf g starts (iteration g p starts k t v) v) (computed g starts (m .values) (iteration g p starts k t v) v);
+    finish = set (m .finish) (placeOf g starts (iteration g p starts k t v) v) (t + latency g v);
+    refusal = None;
+  }
+
+  -- what a visit makes of a machine that goes
+  pub data Visited (t v : ℕ) (m : Machine) : Machine → Type 0 where
+    idle : issues g p starts k t v ≡ false → Visited t v m m
+    stuck : (r : Machine) → issues g p starts k t v ≡ true → (Clear t v m → ⊥) → fine (r .refusal) ≡ false → Visited t v m r
+    goes : issues g p starts k t v ≡ true → Clear t v m → Visited t v m (written t v m)
+
+  issue-visited : (t v : ℕ) (m : Machine) → issues g p starts k t v ≡ true → Visited t v m (issue g p starts k m t v)
+  unfolding issue written fine
+  issue-visited t v m q =
+      pick-ind (Visited t v m) (ltb (lateEdge g p starts k (m .finish) t v) (g .graph .edges)) _ _
+      (λ e. stuck _ q (λ c. not-le-of-lt (ltb-true _ _ e) (c .timely)) refl)
+      (λ e. pick-ind (Visited t v m) (ltb (held g p starts k (m .finish) (runsOn g v) t) (g .class (runsOn g v) .units)) _ _
+      (λ f. goes q (record { timely = ltb-false _ _ e; unit = ltb-true _ _ f }))
+      (λ f. stuck _ q (λ c. not-le-of-lt (c .unit) (ltb-false _ _ f)) refl))
+
+  pub visited : (t v : ℕ) (m : Machine) → fine (m .refusal) ≡ true → Visited t v m (visit g p starts k t m v)
+  unfolding visit
+  visited t v m f =
+      subst (Visited t v m) (sym (pick-true (fine (m .refusal)) (pick (issues g p starts k t v) (issue g p starts k m t v) m) m f))
+      (pick-ind (Visited t v m) (issues g p starts k t v) (issue g p starts k m t v) m (issue-visited t v m) idle)
+
+  -- a machine that goes after a visit went before it
+  pub went : (t v : ℕ) (m : Machine) → fine (visit g p starts k t m v .refusal) ≡ true → fine (m .refusal) ≡ true
+  unfolding visit
+  went t v m h = go (fine (m .refusal)) refl
+    where
+      go : (b : Bool) → fine (m .refusal) ≡ b → fine (m .refusal) ≡ true
+      go true e = e
+      go false e =
+          subst (λ (r : Machine). fine (r .refusal) ≡ true) (pick-false (fine (m .refusal)) (pick (issues g p starts k t v) (issue g p starts k m t v) m) m e) h
+
+  -- what each visit keeps holds through the nodes of a step, and through the steps of a run
+  module _ (Holds : ℕ → Machine → Type 0)
+      (keep : (t v : ℕ) (m : Machine) → 1 ≤ t → v < g .graph .nodes → Holds (t * g .graph .nodes + v) m → Holds (suc (t * g .graph .nodes + v)) (visit g p starts k t m v)) where
+    through-nodes : (t j : ℕ) (m : Machine) → 1 ≤ t → j ≤ g .graph .nodes → Holds (t * g .graph .nodes) m
+        → Holds (t * g .graph .nodes + j) (fold (visit g p starts k t) m (span 0 j))
+    unfolding fold span
+    through-nodes t zero m one l h = rw add-zero h
+    through-nodes t (suc j) m one l h =
+        subst (λ (r : Machine). Holds (t * g .graph .nodes + suc j) r) (sym (fold-snoc (visit g p starts k t) m 0 j))
+        (rw (zero-add, add-suc) (keep t j _ one (omega arith) (through-nodes t j m one (omega arith) h)))
+
+    pub through-steps : (n : ℕ) (m : Machine) → Holds (g .graph .nodes) m → Holds (suc n * g .graph .nodes) (ran g p starts k n m)
+    unfolding ran fold span stepOf
+    through-steps zero m h = rw one-mul h
+    through-steps (suc n) m h =
+        let one : 1 + n ≡ suc n = omega arith in
+        subst (λ (r : Machine). Holds (suc (suc n) * g .graph .nodes) r) (sym (fold-snoc (stepOf g p starts k) m 1 n))
+        (rw (one, suc-mul (suc n) (g .graph .nodes)) (through-nodes (suc n) (g .graph .nodes) _ (omega arith) (omega arith) (through-steps n m h)))
