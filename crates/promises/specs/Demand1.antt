@@ -27,6 +27,12 @@ use Rattle.legal.specs.Loop.{Loop, Pair}
 use Rattle.legal.specs.Handed.{Handed}
 use Rattle.judge.specs.declared.Judged.{Judged}
 use Rattle.judge.specs.Judgement.{RecordJudgement}
+use Rattle.fit.specs.declared.Fitted.{Fitted}
+use Rattle.fit.specs.Fitting.{fitRecord, fitBuffer, RecordFitted}
+use Rattle.floor.specs.declared.Floored.{Floored}
+use Rattle.floor.specs.declared.Part.the-variants as part
+use Rattle.floor.specs.Floor.{RecordFloored}
+use mathlib.Core.Path.{ap}
 
 -- what a definition gives is one thing
 pub settled {ℓ} : {A : Type ℓ} {x : A} (a b : A) → a ≡ x → b ≡ x → a ≡ b
@@ -96,3 +102,33 @@ pub judge-settled : (s : List ℕ) (a b : Judged) → RecordJudgement s a → Re
 judge-settled s a b p q =
     let same : a .refusal ≡ b .refusal = settled (a .refusal) (b .refusal) (p .refusal) (q .refusal) in
     (same, λ k n. cycle-settled _ _ _ _ _ _ (p .handed) (q .handed) same k n)
+
+-- fitting: the refusal, the size and the buffer are settled, and so is the cycle where none is handed over
+pub fit-settled : (s out after again : List ℕ) (a b : Fitted) → RecordFitted s out after a → RecordFitted s out again b
+    → (a .refusal ≡ b .refusal) × (a .size ≡ b .size) × (after ≡ again)
+    × (a .refusal ≢ refusal.Knot → a .refusal ≢ refusal.NoRetiming → a .cycle ≡ b .cycle)
+fit-settled s out after again a b p q =
+    let same : a .refusal ≡ b .refusal = settled (a .refusal) (b .refusal) (p .refusal) (q .refusal) in (
+      same,
+      settled (a .size) (b .size) (p .size) (q .size ∙ ap (λ r. pick (fine r) (written (Rattle.fit.specs.Retimed.fittedForm (readForm s .form)) (length out) .size) 0) (sym same)),
+      settled after again (p .buffer) (q .buffer),
+      λ k n. cycle-settled _ _ _ _ _ _ (p .handed) (q .handed) same k n,
+    )
+
+-- a record that the fit refuses leaves the buffer as it was
+pub fit-refused : (s out : List ℕ) → fine (fitRecord s (length out)) ≡ false → fitBuffer s out ≡ out
+unfolding fitBuffer
+fit-refused s out e = pick-false (fine (fitRecord s (length out))) _ out e
+
+-- the floor: refusal, floor and part are settled, and so is the cycle where none is handed over
+pub floor-settled : (s : List ℕ) (a b : Floored) → RecordFloored s a → RecordFloored s b
+    → (a .refusal ≡ b .refusal) × (a .floor ≡ b .floor) × (a .part ≡ b .part)
+    × (a .refusal ≢ refusal.Knot → a .part ≢ part.Cycle → a .cycle ≡ b .cycle)
+floor-settled s a b p q =
+    let same : a .refusal ≡ b .refusal = settled (a .refusal) (b .refusal) (p .refusal) (q .refusal) in
+    let named : a .part ≡ b .part = settled (a .part) (b .part) (p .part) (q .part ∙ ap (λ r. pick (fine r) (Rattle.floor.specs.Floor.partOf (Rattle.legal.specs.Loop.loopOf (readForm s .form))) part.None) (sym same)) in (
+      same,
+      settled (a .floor) (b .floor) (p .floor) (q .floor ∙ ap (λ r. pick (fine r) (Rattle.floor.specs.Parts.floorLength (Rattle.legal.specs.Loop.loopOf (readForm s .form))) 0) (sym same)),
+      named,
+      λ k n. settled (a .cycle) (b .cycle) (p .cycle .none k n) (q .cycle .none (λ t. k (same ∙ t)) (λ t. n (named ∙ t))),
+    )

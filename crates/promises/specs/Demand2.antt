@@ -1,4 +1,5 @@
--- Demand 2. Reading and writing records undo each other; the judge accepts exactly the legal pairs.
+-- Demand 2. Reading and writing records undo each other; the judge accepts exactly the legal pairs; a retiming is refused exactly where
+-- none exists, and one given has the least depth; no legal pair is shorter than the floor.
 -- Assumes nothing.
 use mathlib.Core.Path.{_≡_, ap}
 use mathlib.Core.Bool.{true}
@@ -9,7 +10,7 @@ use lib.ListN.{length, take}
 use Rattle.answer.specs.Refused.{fine, numberOf}
 use Rattle.answer.specs.declared.Refusal.the-variants.{None}
 use Rattle.form.specs.declared.Form.{Form}
-use Rattle.form.specs.Places.{used}
+use Rattle.form.specs.Places.{used, retimingOf}
 use Rattle.form.specs.Ranges.{WellFormed, Within}
 use Rattle.field.specs.Number.{Bytes}
 use Rattle.reader.specs.Reading.{readForm}
@@ -28,6 +29,21 @@ use Rattle.legal.specs.Limits.{EdgeRules}
 use Rattle.legal.specs.Ruled.{LowestEdge, LowestOver}
 use Rattle.legal.specs.Judging.{judgeOf}
 use Rattle.legal.specs.Judged as judging
+use Prim.Native.Nat.{_<_, _-_}
+use Rattle.lists.specs.Fold.{top}
+use Rattle.system.specs.System.{Losing}
+use Rattle.legal.specs.Loop.{Loop, Pair}
+use Rattle.legal.specs.Shape.{Sound}
+use Rattle.legal.specs.Systems.{Fits, Impossible, paces}
+use Rattle.legal.specs.Fitted.{impossible-unfit}
+use Rattle.fit.specs.Retimed.{fittedForm}
+use Rattle.fit.specs.Fitting.{fitOf}
+use Rattle.fit.specs.Laws as fitting
+use Rattle.floor.specs.declared.Part.the-variants as part
+use Rattle.floor.specs.Parts.{latencyPart, unitsPart, cyclePart, floorLength}
+use Rattle.floor.specs.Floor.{partOf}
+use Rattle.floor.specs.Bounds.{floor-bound}
+use Rattle.floor.specs.Named.{Attains, named}
 
 -- reading what the writer wrote gives the form on its used places, and 0 elsewhere
 pub written-then-read : (f : Form) (out : List ℕ) → Held f → fine (refusalOf f (length out)) ≡ true
@@ -96,3 +112,43 @@ module _ (f : Form) (w : WellFormed f) where
   pub units-refused : (q c : ℕ) → f .length ≢ 0 → Free (loopOf f) → EdgeRules (loopOf f) (pairOf f) → LowestOver (loopOf f) (pairOf f) q c
       → judgeOf f ≡ refusal.Units q c
   units-refused = judging.units-judge f w
+
+  -- ---- the fit, of a well-formed form
+
+  -- NoRetiming exactly where there is a schedule, no knot, and no retiming fits the starts
+  pub unfit-impossible : fitOf f ≡ refusal.NoRetiming → (f .length ≢ 0) × Free (loopOf f) × ((r : ℕ → ℕ) → Fits (loopOf f) (pairOf f) r → ⊥)
+  unfit-impossible = fitting.fit-impossible f w
+
+  pub impossible-unfitted : f .length ≢ 0 → Free (loopOf f) → ((r : ℕ → ℕ) → Fits (loopOf f) (pairOf f) r → ⊥) → fitOf f ≡ refusal.NoRetiming
+  impossible-unfitted = fitting.impossible-fit f w
+
+  -- what is answered is a legal pair, which the judge accepts
+  pub fitted-legal : fitOf f ≡ None → Legal (loopOf (fittedForm f)) (pairOf (fittedForm f))
+  fitted-legal = fitting.fit-legal f w
+
+  pub fitted-accepted : fitOf f ≡ None → judgeOf (fittedForm f) ≡ None
+  fitted-accepted = fitting.fit-judged f w
+
+  -- of the retimings that fit, none is less deep
+  pub fitted-least : fitOf f ≡ None → (r : ℕ → ℕ) (d : ℕ) → Fits (loopOf f) (pairOf f) r → ((v : ℕ) → v < f .nodes → r v ≤ d)
+      → top (fittedForm f .retiming) ≤ d
+  fitted-least = fitting.fit-least f w
+
+  -- and none that is no deeper is larger at any node
+  pub fitted-largest : fitOf f ≡ None → (r : ℕ → ℕ) → Fits (loopOf f) (pairOf f) r → ((v : ℕ) → v < f .nodes → r v ≤ top (fittedForm f .retiming))
+      → (v : ℕ) → v < f .nodes → r v ≤ retimingOf (fittedForm f) v
+  fitted-largest = fitting.fit-largest f w
+
+-- a cycle with negative limit sum proves that no retiming fits
+pub cycle-unfit : (g : Loop) (p : Pair) (es : List ℕ) → Impossible g p es → (r : ℕ → ℕ) → Fits g p r → ⊥
+cycle-unfit = impossible-unfit
+
+-- ---- the floor
+
+-- no legal pair is shorter
+pub floor-below : (g : Loop) (p : Pair) → Sound g → Legal g p → floorLength g ≤ p .length
+floor-below = floor-bound
+
+-- the part that is named attains it, and no part before it does
+pub floor-named : (g : Loop) → Attains g (partOf g)
+floor-named = named

@@ -12,6 +12,8 @@ use Rattle.judge.specs.declared.Judged.{Judged}
 use Rattle.judge.specs.Judgement.{RecordJudgement}
 use Rattle.fit.specs.declared.Fitted.{Fitted}
 use Rattle.fit.specs.Fitting.{RecordFitted}
+use Rattle.floor.specs.declared.Floored.{Floored}
+use Rattle.floor.specs.Floor.{partNumber, partClass, RecordFloored}
 
 -- of an answer of type A: its contract, its refusal, its numbers and its cycle
 pub record Answered (A : Type 0) (meets : A → Type 0) (refused : A → Refusal) (numbers : A → Details) (cycle : A → Cycle) (number : ℕ) (list : List ℕ) : Type 0 where
@@ -27,3 +29,8 @@ JudgeAnswered s = Answered Judged (RecordJudgement s) (λ j. j .refusal) (λ j. 
 -- a record fitted: its size
 abbrev pub FitAnswered : List ℕ → List ℕ → List ℕ → ℕ → List ℕ → Type 0
 FitAnswered s out after = Answered Fitted (RecordFitted s out after) (λ f. f .refusal) (λ f. details (f .size) 0 0) (λ f. f .cycle)
+
+-- the floor of a record: the floor, its part's number, and the class for part b
+abbrev pub FloorAnswered : List ℕ → ℕ → List ℕ → Type 0
+FloorAnswered s =
+    Answered Floored (RecordFloored s) (λ f. f .refusal) (λ f. details (f .floor) (partNumber (f .part)) (partClass (f .part))) (λ f. f .cycle)

@@ -3,7 +3,7 @@ ghost use mathlib.Core.Path.{_≡_};
 ghost use lib.ListN.{length};
 ghost use Rattle.answer.specs.Refused.{numberOf};
 ghost use Rattle.rsk_c.specs.Rewrite.{rewritten, rewrittenOut, rewrittenAnswer};
-ghost use Rattle.rsk_c.specs.Answered.{JudgeAnswered, FitAnswered};
+ghost use Rattle.rsk_c.specs.Answered.{JudgeAnswered, FitAnswered, FloorAnswered};
 use answer::Cycle;
 
 // The record read and written again; its size.
@@ -52,6 +52,25 @@ pub extern "C" fn rsk_fit(record: &[u8], out: &mut [u8], answer: &mut [u32; 69])
         answer,
         refusal,
         answer::numbers_of(fitted.size, 0, 0),
+        cycle,
+    )
+}
+
+// The floor of the record: the floor, the part that attains it, and the class for part b.
+#[no_mangle]
+pub extern "C" fn rsk_floor(record: &[u8], answer: &mut [u32; 69]) -> u32
+    ensures { λ r. ⌜ FloorAnswered (now («record» .entry)) r (now (answer .exit)) ⌝ }
+{
+    let floored = floor::floor(record);
+    let refusal = floored.refusal;
+    let part = floored.part;
+    let cycle = floored.cycle;
+    let number = floor::part_number(part);
+    let class = floor::part_class(part);
+    answer::fill(
+        answer,
+        refusal,
+        answer::numbers_of(floored.floor, number, class),
         cycle,
     )
 }
