@@ -1,12 +1,14 @@
 -- Tables that tell a loop's edges and which of them are tight, what a sweep over them makes of the marks, and the weights as a table.
 -- Assumes nothing.
-use mathlib.Core.Path.{_≡_}
+use mathlib.Core.Path.{_≡_, _∙_, ap}
 use mathlib.Core.Bool.{Bool, false, _&&_, not}
 use mathlib.Core.List.{List, _++_, map}
-use Prim.Native.Nat.{ℕ, _-_, _≤_, _<_}
+use Prim.Native.Nat.{ℕ, zero, suc, _+_, _-_, _≤_, _<_}
+use native.Mathlib.Omega.{arith}
+use native.Mathlib.Nat.{zero-add, add-zero, add-suc, suc-add, not-suc-le-zero, le-of-suc-le-suc}
 use lib.Dec.{eqb}
-use lib.ListN.{getD, replicate}
-use Rattle.lists.specs.Span.{span}
+use lib.ListN.{length, getD, replicate, length-append, length-map, length-replicate, List·getD-append}
+use Rattle.lists.specs.Span.{span, span-length}
 use Rattle.lists.specs.Fold.{count}
 use Rattle.legal.specs.Loop.{Loop}
 use Rattle.reach.specs.Weight.{tight, sweep, reach, weight}
@@ -47,3 +49,31 @@ pub record Reaches (edges : ℕ) (tails heads tights : List ℕ) (left : ℕ) (m
 -- the weight of each node, and 0 past the nodes
 unfoldable pub weightsOf : Loop → (ℕ → ℕ) → List ℕ
 weightsOf g r = map (weight g r) (span 0 (g .graph .nodes)) ++ replicate (64 - g .graph .nodes) 0
+
+map-at : (f : ℕ → ℕ) (a n i : ℕ) → i < n → getD (map f (span a n)) i 0 ≡ f (a + i)
+unfolding span
+map-at f a zero i l = absurd (not-suc-le-zero l)
+map-at f a (suc n) zero l = rw add-zero
+map-at f a (suc n) (suc i) l = rw (add-suc, ← suc-add) (map-at f (suc a) n i (le-of-suc-le-suc l))
+
+-- the place of a node holds its weight
+pub weights-at : (g : Loop) (r : ℕ → ℕ) (v : ℕ) → v < g .graph .nodes → getD (weightsOf g r) v 0 ≡ weight g r v
+unfolding weightsOf
+weights-at g r v l =
+    let here : v < length (map (weight g r) (span 0 (g .graph .nodes))) = omega (
+      arith,
+      length-map (span 0 (g .graph .nodes)) (weight g r),
+      span-length 0 (g .graph .nodes),
+    ) in
+    List·getD-append (map (weight g r) (span 0 (g .graph .nodes))) (replicate (64 - g .graph .nodes) 0) 0 v here ∙ map-at (weight g r) 0 (g .graph .nodes) v l ∙ ap (weight g r) (zero-add v)
+
+pub weights-length : (g : Loop) (r : ℕ → ℕ) → g .graph .nodes ≤ 64 → length (weightsOf g r) ≡ 64
+unfolding weightsOf
+weights-length g r few =
+    omega (
+      arith,
+      length-append (map (weight g r) (span 0 (g .graph .nodes))) (replicate (64 - g .graph .nodes) 0),
+      length-map (span 0 (g .graph .nodes)) (weight g r),
+      span-length 0 (g .graph .nodes),
+      length-replicate {A = ℕ} (64 - g .graph .nodes) 0,
+    )

@@ -1,7 +1,7 @@
 -- `reach::reach` meets its contract: one sweep, and the sweeps that are left, or none where the first changes nothing.
 -- Assumes nothing.
-use borrow.Author.Needs.{needs}
 use Prim.Native.Nat.{ℕ, _<_}
+use borrow.Author.Needs.{needs}
 use borrow.Fn.Kinds.{In}
 use borrow.Fn.PlainCycle.{Measures, is, falls, and}
 use Rattle.reach.proofs.Laws.{reach-none, reach-more, reach-last}

@@ -1,5 +1,6 @@
 -- `reach::weight_of` meets its contract: the node itself is marked, so there is one to take off.
 -- Assumes nothing.
+use Prim.Native.Nat.{_≤_}
 use native.Mathlib.Omega.{arith}
 use lib.ListN.{replicate}
 use lib.Seq.{getD-set-same}
@@ -21,7 +22,8 @@ sub-result : tie.Need-sub-result
 sub-result c =
     let p = c .before .before in
     let a = p .before .before .args in
-    some-counted _ _ (a .v) _ (p .before .before .pre .0) (p .reach .ensures .keeps (a .v) (getD-set-same (replicate 64 0) (a .v) 1 0 (omega arith))) (c .marked-of .ensures)
+    let one : 1 ≤ c .marked-of .result = some-counted _ _ (a .v) _ (p .before .before .pre .0) (p .reach .ensures .keeps (a .v) (getD-set-same (replicate 64 0) (a .v) 1 0 (omega arith))) (c .marked-of .ensures) in
+    omega arith
 
 returns : tie.Need-returns
 returns c g r n told = weight-is g r _ _ _ _ n (c .before .before .reach .ensures .is-reach g r told) (c .marked-of .ensures)
