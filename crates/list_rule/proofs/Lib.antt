@@ -1,3 +1,4 @@
 pub mod Laws
 pub mod Units
 pub mod Waits
+pub mod Ordering

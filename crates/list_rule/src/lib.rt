@@ -1,9 +1,9 @@
 // The list rule: nodes placed step by step, the heaviest that is ready first.
-ghost use mathlib.Core.Bool.{Bool};
+ghost use mathlib.Core.Bool.{_||_};
 ghost use mathlib.Core.Path.{_≡_};
 ghost use Prim.Native.Nat.{ℕ, _+_, _*_, _≤_, _<_};
 ghost use lib.ListN.{length, getD, take};
-ghost use lib.Dec.{eqb};
+ghost use lib.Dec.{eqb, ltb};
 ghost use Rattle.lists.specs.Pick.{pick};
 ghost use Rattle.lists.specs.Span.{span};
 ghost use Rattle.lists.specs.Fold.{count};
@@ -35,6 +35,16 @@ fn spot(step: u16, class: u8) -> usize
     step as usize * 4 + class as usize
 }
 
+// A node that weighs less is passed, now or before.
+fn passed(before: bool, weight: u8, own: u8) -> bool
+    ensures { λ r. ⌜ r ≡ before || ltb weight own ⌝ }
+{
+    if before {
+        return true;
+    }
+    weight < own
+}
+
 // `node` goes before the first of the nodes so far that weighs less; from there on each moves one place.
 fn insert(order: &mut [u8; 64], node: u8, weight: [u8; 64])
     requires { ⌜ (length (now order) ≡ 64) × (node < 64) ⌝ }
@@ -47,7 +57,7 @@ fn insert(order: &mut [u8; 64], node: u8, weight: [u8; 64])
     for k in 0..node {
         let i = k as usize;
         let u = order[i];
-        lighter = lighter || weight[u as usize] < own;
+        lighter = passed(lighter, weight[u as usize], own);
         if lighter {
             order[i] = carried;
             carried = u;
