@@ -69,7 +69,7 @@ fn insert(order: &mut [u8; 64], node: u8, weight: [u8; 64])
 // The nodes heaviest first, then lowest number.
 fn order_of(nodes: u8, weight: [u8; 64]) -> [u8; 64]
     requires { ⌜ nodes ≤ 64 ⌝ }
-    ensures { λ r. ⌜ take nodes r ≡ orderOf (weightOf weight) nodes ⌝ }
+    ensures { λ r. ⌜ (length r ≡ 64) × (take nodes r ≡ orderOf (weightOf weight) nodes) ⌝ }
 {
     let mut order = [0u8; 64];
     for v in 0..nodes {
