@@ -1,13 +1,13 @@
 -- Units in use: the table raised for an operation, and the use of every node that is placed.
 -- Assumes nothing.
 use mathlib.Core.Path.{_≡_, refl, sym, _∙_}
-use mathlib.Core.Bool.{Bool, true, false, _&&_}
+use mathlib.Core.Bool.{true, false}
 use mathlib.Core.Logic.{_≢_}
 use mathlib.Core.List.{List}
 use Prim.Native.Nat.{ℕ, _+_, _*_, _≤_, _<_}
 use native.Mathlib.Omega.{arith}
 use native.Mathlib.Decide.{ℕ-discrete, decLt}
-use lib.Dec.{eqb, ltb, leb}
+use lib.Dec.{eqb, ltb}
 use lib.ListN.{length, getD, set, length-set}
 use lib.Seq.{getD-set-same, getD-set-other}
 use borrow.Author.Tests.{le-ltb, lt-ltb, le-leb, lt-leb, eq-eqb, ne-eqb}
@@ -20,11 +20,7 @@ use Rattle.form.specs.Ranges.{WellFormed}
 use Rattle.legal.specs.Loop.{graphOf, loopOf, hold}
 use Rattle.list_rule.specs.Rule.{startAt, uses}
 use Rattle.list_rule.specs.Tables.{holdsAt, Raised, Used}
-use Rattle.list_rule.proofs.Laws.{adds-one, adds-none, count-more, count-within}
-
-both-false : (b : Bool) → b && false ≡ false
-both-false true = refl
-both-false false = refl
+use Rattle.list_rule.proofs.Laws.{both-false, adds-one, adds-none, count-more, count-within, count-change}
 
 module _ (s k c q : ℕ) where
   pub not-placed : (past : ℕ) → s ≡ 0 → holdsAt s k past c q ≡ false
@@ -133,6 +129,23 @@ module _ (f : Form) (s : List ℕ) where
 
   pub used-fits : (n : ℕ) (busy : List ℕ) → n ≤ 64 → Used f s n busy → (c q : ℕ) → c < 4 → q < 1032 → getD busy (q * 4 + c) 0 < 255
   used-fits n busy h u c q a b = omega (arith, u .at c q a b, count-within (uses (loopOf f) s c q) n)
+
+-- a node placed at p uses what it holds, and the others what they used
+pub used-put : (f : Form) (s : List ℕ) (v p held : ℕ) (busy after : List ℕ) → v < f .nodes → v < length s → startAt s v ≡ 0 → held ≡ hold (classOf f (classAt f v))
+    → Used f s (f .nodes) busy → Raised busy p (classAt f v) (p + held) after → Used f (set s v p) (f .nodes) after
+used-put f s v p held busy after v-in v-len none is-held u r = record {
+  size = r .size;
+  at = λ c q a b. r .at c q a b ∙ rw (u .at c q a b) (sym (count-change (uses (loopOf f) s c q) (uses (loopOf f) (set s v p) c q) (f .nodes) v v-in (others c q) (before c q) ∙ rw (new c q)));
+}
+  where
+    others : (c q u : ℕ) → u ≢ v → uses (loopOf f) (set s v p) c q u ≡ uses (loopOf f) s c q u
+    others c q u ne = rw (uses-holds, uses-holds, getD-set-other s v u p 0 ne)
+
+    before : (c q : ℕ) → uses (loopOf f) s c q v ≡ false
+    before c q = uses-holds f s c q v ∙ not-placed _ _ c q _ none
+
+    new : (c q : ℕ) → uses (loopOf f) (set s v p) c q v ≡ holdsAt p (classAt f v) (p + held) c q
+    new c q = rw (uses-holds, getD-set-same s v p 0 v-len, is-held)
 
 -- a node's class is on the board, and an operation holds a unit for at most 8 steps
 pub record Board (f : Form) (v : ℕ) : Type 0 where

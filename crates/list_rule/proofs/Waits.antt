@@ -1,13 +1,13 @@
 -- Nodes that wait: edges counted at their heads.
 -- Assumes nothing.
 use mathlib.Core.Path.{_≡_, refl, sym, _∙_}
-use mathlib.Core.Bool.{Bool, true, false, _&&_}
+use mathlib.Core.Bool.{Bool, _&&_}
 use mathlib.Core.List.{List}
 use Prim.Native.Nat.{ℕ, _+_, _≤_, _<_}
 use native.Mathlib.Omega.{arith}
 use native.Mathlib.Decide.{ℕ-discrete}
 use lib.Dec.{eqb}
-use lib.ListN.{length, getD, set, replicate, length-set, length-replicate}
+use lib.ListN.{getD, set, replicate, length-set, length-replicate}
 use lib.Seq.{getD-set-same, getD-set-other}
 use borrow.Author.Tests.{eq-eqb, ne-eqb}
 use Rattle.lists.specs.Pick.{pick}
@@ -16,11 +16,11 @@ use Rattle.lists.specs.Fold.{count}
 use Rattle.lists.specs.Place.{zeros-at}
 use Rattle.form.specs.declared.Form.{Form}
 use Rattle.form.specs.declared.BodyStep.{BodyStep}
-use Rattle.form.specs.Places.{classOf, nodeOf, noStep, latencyOf, retimingOf}
+use Rattle.form.specs.Places.{nodeOf, noStep, latencyOf, retimingOf}
 use Rattle.form.specs.Ranges.{WellFormed}
 use Rattle.legal.specs.Loop.{graphOf, loopOf}
 use Rattle.reach.specs.Weight.{tight}
-use Rattle.list_rule.specs.Rule.{startAt, blocks}
+use Rattle.list_rule.specs.Rule.{blocks}
 use Rattle.list_rule.specs.Tables.{numbersOf, blocksAt, waitsFor, Waits}
 use Rattle.list_rule.proofs.Laws.{number-at, adds-none, adds-small, count-more, count-within}
 

@@ -5,7 +5,7 @@ use mathlib.Core.Bool.{Bool, _&&_, _||_}
 use mathlib.Core.List.{List, map}
 use Prim.Native.Nat.{ℕ, _+_, _*_, _≤_, _<_}
 use lib.Dec.{eqb, ltb, leb}
-use lib.ListN.{length, getD, take}
+use lib.ListN.{length, getD}
 use Rattle.lists.specs.Pick.{pick}
 use Rattle.lists.specs.Span.{span}
 use Rattle.lists.specs.Fold.{count}
@@ -13,7 +13,7 @@ use Rattle.form.specs.declared.Form.{Form}
 use Rattle.form.specs.declared.BodyStep.{BodyStep}
 use Rattle.form.specs.Places.{startOf, latencyOf, retimingOf}
 use Rattle.legal.specs.Loop.{loopOf}
-use Rattle.list_rule.specs.Rule.{startAt, uses, blocks}
+use Rattle.list_rule.specs.Rule.{uses, blocks}
 
 unfoldable pub numbersOf : List BodyStep → List ℕ
 numbersOf s = map (λ b. b .0) s

@@ -8,11 +8,6 @@ use Rattle.list_rule.proofs.Laws.{start-at}
 use Rattle.list_rule.proofs.Units.{Board, board-of, used-none, used-more, used-all, used-fits}
 use Rattle.list_rule.proofs.busy_of.Statement.{statement}
 use Rattle.list_rule.proofs.busy_of.Tie as tie
-use Rattle.list_rule.proofs.busy_of.Reads as reads
-use Rattle.list_rule.proofs.busy_of.Lts as lts
-use Rattle.list_rule.proofs.hold_of.Reads as hold-of-reads
-use Rattle.list_rule.proofs.idle.Reads as idle-reads
-use Rattle.list_rule.proofs.raise.Reads as raise-reads
 
 abbrev Inv-loop : tie.InvT-loop
 Inv-loop form busy₀ v₀ v-end busy v = (v ≤ form .nodes) × Used form (startsOf form) v busy

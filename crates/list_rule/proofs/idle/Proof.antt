@@ -5,10 +5,7 @@ use lib.ListN.{length-replicate}
 use Rattle.lists.specs.Place.{zeros-at}
 use Rattle.list_rule.proofs.idle.Statement.{statement}
 use Rattle.list_rule.proofs.idle.Tie as tie
-use Rattle.list_rule.proofs.idle.Reads as reads
-use Rattle.list_rule.proofs.idle.Lts as lts
 
--- src/lib.rt:79:1
 returns : tie.Need-returns
 returns c = (length-replicate {A = ℕ} 4128 0, zeros-at 4128)
 

@@ -10,9 +10,6 @@ use Rattle.list_rule.specs.Tables.{weightOf}
 use Rattle.list_rule.proofs.Ordering.{order-none, order-next, table-below}
 use Rattle.list_rule.proofs.order_of.Statement.{statement}
 use Rattle.list_rule.proofs.order_of.Tie as tie
-use Rattle.list_rule.proofs.order_of.Reads as reads
-use Rattle.list_rule.proofs.order_of.Lts as lts
-use Rattle.list_rule.proofs.insert.Reads as insert-reads
 
 abbrev Inv-loop : tie.InvT-loop
 Inv-loop nodes weight order₀ v₀ order v = (v ≤ nodes) × (length order ≡ 64) × (take v order ≡ orderOf (weightOf weight) v)

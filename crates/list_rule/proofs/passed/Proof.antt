@@ -1,14 +1,12 @@
+-- `list_rule::passed` meets its contract.
+-- Assumes nothing.
 use borrow.Author.Needs.{needs}
 use Rattle.list_rule.proofs.passed.Statement.{statement}
 use Rattle.list_rule.proofs.passed.Tie as tie
-use Rattle.list_rule.proofs.passed.Reads as reads
-use Rattle.list_rule.proofs.passed.Lts as lts
 
--- src/lib.rt:43:9
 returns : tie.Need-returns
 returns c = search needs
 
--- src/lib.rt:39:1
 returns-2 : tie.Need-returns-2
 returns-2 c = rw (c .if1 .left)
 

@@ -8,9 +8,6 @@ use Rattle.list_rule.specs.Tables.{Raised}
 use Rattle.list_rule.proofs.Units.{raised-not-placed, raised-none, raised-here, raised-more}
 use Rattle.list_rule.proofs.raise.Statement.{statement}
 use Rattle.list_rule.proofs.raise.Tie as tie
-use Rattle.list_rule.proofs.raise.Reads as reads
-use Rattle.list_rule.proofs.raise.Lts as lts
-use Rattle.list_rule.proofs.spot.Reads as spot-reads
 
 abbrev Inv-loop : tie.InvT-loop
 Inv-loop busy₀ begins class hold q₀ q-end busy q = (begins ≤ q) × (q ≤ q-end) × Raised busy₀ begins class q busy
@@ -18,51 +15,40 @@ Inv-loop busy₀ begins class hold q₀ q-end busy q = (begins ≤ q) × (q ≤ 
 abbrev μ-loop : tie.MeasureT-loop
 μ-loop busy₀ begins class hold q₀ q-end busy q = q-end - q
 
--- src/lib.rt:92:9
 returns : tie.Need-returns Inv-loop μ-loop
 returns c = raised-not-placed _ _ _ _ (c .before .pre .0 .0) (c .if1 .taken)
 
--- src/lib.rt:94:22
 add-q-end : tie.Need-add-q-end Inv-loop μ-loop
 add-q-end c = search needs
 
--- src/lib.rt:94:5
 loop-holds : tie.Need-loop-holds Inv-loop μ-loop
 loop-holds c = (search needs, search needs, raised-none _ _ _ (c .before .pre .0 .0))
 
--- src/lib.rt:95:13
 spot-requires : tie.Need-spot-requires Inv-loop μ-loop
 spot-requires c κs = search needs
 
--- src/lib.rt:96:9
 element-copy-out-busy : tie.Need-element-copy-out-busy Inv-loop μ-loop
 element-copy-out-busy c = search needs
 
--- src/lib.rt:96:9
 add-busy : tie.Need-add-busy Inv-loop μ-loop
 add-busy c =
     let l = c .before .before .before in
     rw (c .before .spot .ensures .0) (omega (arith, raised-here _ _ _ _ _ (l .loop .inv .2) (l .before .before .pre .0 .1) (omega arith) (l .loop .inv .0) (omega arith), l .before .before .pre .1 (l .loop .q) (omega arith)))
 
--- src/lib.rt:96:9
 element-write-busy : tie.Need-element-write-busy Inv-loop μ-loop
 element-write-busy c = search needs
 
--- src/lib.rt:94:9
 add-q : tie.Need-add-q Inv-loop μ-loop
 add-q c = search needs
 
--- src/lib.rt:94:5
 loop-less : tie.Need-loop-less Inv-loop μ-loop
 loop-less c = search needs
 
--- src/lib.rt:94:5
 loop-again : tie.Need-loop-again Inv-loop μ-loop
 loop-again c =
     let l = c .before .before .before in
     (search needs, search needs, raised-more _ _ _ _ _ (l .loop .inv .2) (l .before .before .pre .0 .1) (omega arith) (l .loop .inv .0) (omega arith) _ (c .before .spot .ensures .0))
 
--- src/lib.rt:86:1
 returns-2 : tie.Need-returns-2 Inv-loop μ-loop
 returns-2 c =
     let l = c .before in

@@ -8,7 +8,6 @@ use native.Mathlib.Omega.{arith}
 use lib.Dec.{eqb}
 use borrow.Author.Needs.{needs}
 use borrow.Author.Tests.{eq-eqb, ne-eqb}
-use Rattle.lists.specs.Pick.{pick}
 use Rattle.lists.specs.Span.{span}
 use Rattle.lists.specs.Fold.{count}
 use Rattle.list_rule.specs.Rule.{startAt}
@@ -16,8 +15,6 @@ use Rattle.list_rule.specs.Tables.{numbersOf}
 use Rattle.list_rule.proofs.Laws.{number-at, adds-one, adds-none, count-more}
 use Rattle.list_rule.proofs.unplaced.Statement.{statement}
 use Rattle.list_rule.proofs.unplaced.Tie as tie
-use Rattle.list_rule.proofs.unplaced.Reads as reads
-use Rattle.list_rule.proofs.unplaced.Lts as lts
 
 -- how many of the first v nodes are not placed
 abbrev unplacedOf : List ℕ → ℕ → ℕ

@@ -7,9 +7,6 @@ use Rattle.list_rule.specs.Tables.{numbersOf, Waits}
 use Rattle.list_rule.proofs.Waits.{Edged, edged-of, waits-none, waits-more, waits-all, waits-fits}
 use Rattle.list_rule.proofs.waiting.Statement.{statement}
 use Rattle.list_rule.proofs.waiting.Tie as tie
-use Rattle.list_rule.proofs.waiting.Reads as reads
-use Rattle.list_rule.proofs.waiting.Lts as lts
-use Rattle.list_rule.proofs.blocked.Reads as blocked-reads
 
 abbrev Inv-loop : tie.InvT-loop
 Inv-loop step form start waits₀ e₀ e-end waits e = (e ≤ form .edges) × Waits form (numbersOf start) step e waits
