@@ -9,3 +9,4 @@ pub mod Ends
 pub mod Filling
 pub mod Placed
 pub mod FirstLegal
+pub mod Tables

@@ -1,1 +1,204 @@
 // The list rule: nodes placed step by step, the heaviest that is ready first.
+ghost use mathlib.Core.Bool.{_||_};
+ghost use mathlib.Core.Path.{_≡_};
+ghost use Prim.Native.Nat.{ℕ, _+_, _*_, _≤_, _<_};
+ghost use lib.ListN.{length, getD, take};
+ghost use lib.Dec.{eqb, ltb};
+ghost use Rattle.lists.specs.Pick.{pick};
+ghost use Rattle.lists.specs.Span.{span};
+ghost use Rattle.lists.specs.Fold.{count};
+ghost use Rattle.form.specs.Places.{retimingOf};
+ghost use Rattle.form.specs.Ranges.{WellFormed};
+ghost use Rattle.legal.specs.Loop.{loopOf, hold};
+ghost use Rattle.reach.specs.Weight.{weight as weightIn};
+ghost use Rattle.list_rule.specs.Order.{insert as insertIn, orderOf};
+ghost use Rattle.list_rule.specs.Rule.{startAt, listRule};
+ghost use Rattle.list_rule.specs.Tables.{numbersOf, startsOf, weightOf, Ends, Raised, Used, Waits, blocksAt};
+use form::BodyStep;
+use form::Class;
+use form::Form;
+
+// How many steps an operation holds its unit.
+fn hold_of(class: Class) -> u16
+    ensures { λ r. ⌜ r ≡ hold class ⌝ }
+{
+    if class.pipelined == 0 {
+        return class.latency as u16;
+    }
+    1
+}
+
+// The place of a step and a class in the table of use.
+fn spot(step: u16, class: u8) -> usize
+    ensures { λ r. ⌜ (r ≡ step * 4 + class) × (r < 262400) ⌝ }
+{
+    step as usize * 4 + class as usize
+}
+
+// A node that weighs less is passed, now or before.
+fn passed(before: bool, weight: u8, own: u8) -> bool
+    ensures { λ r. ⌜ r ≡ before || ltb weight own ⌝ }
+{
+    if before {
+        return true;
+    }
+    weight < own
+}
+
+// `node` goes before the first of the nodes so far that weighs less; from there on each moves one place.
+fn insert(order: &mut [u8; 64], node: u8, weight: [u8; 64])
+    requires { ⌜ (length (now order) ≡ 64) × (node < 64) ⌝ }
+    requires { ⌜ ((i : ℕ) → i < node → getD (now order) i 0 < 64) ⌝ }
+    ensures { λ _. ⌜ (length (now (order .exit)) ≡ 64) × (take (node + 1) (now (order .exit)) ≡ insertIn (weightOf weight) (take node (now (order .entry))) node) ⌝ }
+{
+    let own = weight[node as usize];
+    let mut carried = node;
+    let mut lighter = false;
+    for k in 0..node {
+        let i = k as usize;
+        let u = order[i];
+        lighter = passed(lighter, weight[u as usize], own);
+        if lighter {
+            order[i] = carried;
+            carried = u;
+        }
+    }
+    order[node as usize] = carried;
+}
+
+// The nodes heaviest first, then lowest number.
+fn order_of(nodes: u8, weight: [u8; 64]) -> [u8; 64]
+    requires { ⌜ nodes ≤ 64 ⌝ }
+    ensures { λ r. ⌜ (length r ≡ 64) × (take nodes r ≡ orderOf (weightOf weight) nodes) ⌝ }
+{
+    let mut order = [0u8; 64];
+    for v in 0..nodes {
+        insert(&mut order, v, weight);
+    }
+    order
+}
+
+// No unit is in use.
+fn idle() -> [u8; 4128]
+    ensures { λ r. ⌜ (length r ≡ 4128) × ((i : ℕ) → getD r i 0 ≡ 0) ⌝ }
+{
+    [0; 4128]
+}
+
+// One more unit of `class` in use, in the steps that an operation from `begins` on holds it; 0 is not placed.
+fn raise(busy: &mut [u8; 4128], begins: u16, class: u8, hold: u16)
+    requires { ⌜ (length (now busy) ≡ 4128) × (class < 4) × (begins + hold ≤ 1032) ⌝ }
+    requires { ⌜ ((q : ℕ) → q < 1032 → getD (now busy) (q * 4 + class) 0 < 255) ⌝ }
+    ensures { λ _. ⌜ Raised (now (busy .entry)) begins class (begins + hold) (now (busy .exit)) ⌝ }
+{
+    if begins == 0 {
+        return;
+    }
+    for q in begins..begins + hold {
+        let at = spot(q, class);
+        busy[at] += 1;
+    }
+}
+
+// The units in use by the starts of the form.
+fn busy_of(form: Form) -> [u8; 4128]
+    requires { ⌜ WellFormed form × Ends form ⌝ }
+    ensures { λ r. ⌜ Used form (startsOf form) (form .nodes) r ⌝ }
+{
+    let mut busy = idle();
+    for v in 0..form.nodes {
+        let i = v as usize;
+        let number = form.node[i].class;
+        let class = form.class[number as usize];
+        raise(&mut busy, form.start[i].0, number, hold_of(class));
+    }
+    busy
+}
+
+// How many nodes are not placed.
+fn unplaced(nodes: u8, start: [BodyStep; 64]) -> u8
+    requires { ⌜ nodes ≤ 64 ⌝ }
+    ensures { λ r. ⌜ r ≡ count (λ v. eqb (startAt (numbersOf start) v) 0) (span 0 nodes) ⌝ }
+{
+    let mut left: u8 = 0;
+    for v in 0..nodes {
+        if start[v as usize].0 == 0 {
+            left += 1;
+        }
+    }
+    left
+}
+
+// 1 where an edge keeps its head from starting at `step`.
+fn blocked(delays: u8, tail: u8, head: u8, begins: u16, latency: u8, step: u16) -> u16
+    ensures { λ r. ⌜ r ≡ pick (blocksAt delays tail head begins latency step) 1 0 ⌝ }
+{
+    if delays as u16 + tail as u16 != head as u16 {
+        return 0;
+    }
+    if begins == 0 {
+        return 1;
+    }
+    if (step as u32) < begins as u32 + latency as u32 {
+        return 1;
+    }
+    0
+}
+
+// How many edges keep each node from starting at `step`.
+fn waiting(form: Form, start: [BodyStep; 64], step: u16) -> [u16; 64]
+    requires { ⌜ WellFormed form ⌝ }
+    ensures { λ r. ⌜ Waits form (numbersOf start) step (form .edges) r ⌝ }
+{
+    let mut waits = [0u16; 64];
+    for e in 0..form.edges {
+        let i = e as usize;
+        let tail = form.from[i] as usize;
+        let head = form.to[i] as usize;
+        let class = form.class[form.node[tail].class as usize];
+        waits[head] += blocked(
+            form.delays[i],
+            form.retiming[tail],
+            form.retiming[head],
+            start[tail].0,
+            class.latency,
+            step,
+        );
+    }
+    waits
+}
+
+// Starts that are not 0 stay; the other nodes are placed.
+pub fn list_rule(form: Form, weight: [u8; 64]) -> [BodyStep; 64]
+    requires { ⌜ WellFormed form × Ends form ⌝ }
+    requires { ⌜ ((v : ℕ) → v < form .nodes → getD weight v 0 ≡ weightIn (loopOf form) (retimingOf form) v) ⌝ }
+    ensures { λ r. ⌜ numbersOf r ≡ listRule (loopOf form) (retimingOf form) (startsOf form) ⌝ }
+{
+    let nodes = form.nodes;
+    let order = order_of(nodes, weight);
+    let mut start = form.start;
+    let mut busy = busy_of(form);
+    'steps: for p in 1..1024u16 {
+        if unplaced(nodes, start) == 0 {
+            break 'steps;
+        }
+        let waits = waiting(form, start, p);
+        'nodes: for i in 0..nodes {
+            let v = order[i as usize] as usize;
+            if start[v].0 != 0 || waits[v] != 0 {
+                continue 'nodes;
+            }
+            let number = form.node[v].class;
+            let class = form.class[number as usize];
+            let hold = hold_of(class);
+            for q in p..p + hold {
+                if class.units <= busy[spot(q, number)] {
+                    continue 'nodes;
+                }
+            }
+            start[v] = BodyStep(p);
+            raise(&mut busy, p, number, hold);
+        }
+    }
+    start
+}

@@ -1,0 +1,98 @@
+-- `list_rule::busy_of` meets its contract: the nodes passed are in use.
+-- Assumes nothing.
+use Prim.Native.Nat.{_≤_, _-_}
+use native.Mathlib.Omega.{arith}
+use borrow.Author.Needs.{needs}
+use Rattle.list_rule.specs.Tables.{startsOf, Used}
+use Rattle.list_rule.proofs.Laws.{start-at}
+use Rattle.list_rule.proofs.Units.{Board, board-of, used-none, used-more, used-all, used-fits}
+use Rattle.list_rule.proofs.busy_of.Statement.{statement}
+use Rattle.list_rule.proofs.busy_of.Tie as tie
+
+abbrev Inv-loop : tie.InvT-loop
+Inv-loop form busy₀ v₀ v-end busy v = (v ≤ form .nodes) × Used form (startsOf form) v busy
+
+abbrev μ-loop : tie.MeasureT-loop
+μ-loop form busy₀ v₀ v-end busy v = form .nodes - v
+
+idle-requires : tie.Need-idle-requires Inv-loop μ-loop
+idle-requires c κs = search needs
+
+loop-holds : tie.Need-loop-holds Inv-loop μ-loop
+loop-holds c = (search needs, used-none _ _ _ (c .idle .ensures .0) (c .idle .ensures .1))
+
+board : (c : tie.In-loop Inv-loop μ-loop) → Board (c .before .before .before .args .t1) (c .before .loop .v)
+board c = board-of _ (c .before .before .before .pre .0) _ (c .loop-test .taken)
+
+cast-i : tie.Need-cast-i Inv-loop μ-loop
+cast-i c = search needs
+
+mul-number : tie.Need-mul-number Inv-loop μ-loop
+mul-number c = search needs
+
+element-copy-out-number : tie.Need-element-copy-out-number Inv-loop μ-loop
+element-copy-out-number c = search needs
+
+cast-class : tie.Need-cast-class Inv-loop μ-loop
+cast-class c = omega (arith, board c .class-in)
+
+mul-class : tie.Need-mul-class Inv-loop μ-loop
+mul-class c = omega (arith, board c .class-in)
+
+element-copy-out-class : tie.Need-element-copy-out-class Inv-loop μ-loop
+element-copy-out-class c = board c .class-in
+
+mul-raise : tie.Need-mul-raise Inv-loop μ-loop
+mul-raise c = search needs
+
+element-copy-out-raise : tie.Need-element-copy-out-raise Inv-loop μ-loop
+element-copy-out-raise c = search needs
+
+hold-of-requires : tie.Need-hold-of-requires Inv-loop μ-loop
+hold-of-requires c κs = search needs
+
+raise-requires : tie.Need-raise-requires Inv-loop μ-loop
+raise-requires c κs =
+    let l = c .before .before .before .before in
+    let k = board (c .before .before .before) in
+    let w = l .before .before .pre in (
+      (l .loop .inv .1 .size, k .class-in, omega (arith, c .hold-of .ensures, w .1 .at (l .loop .v) (omega arith))),
+      λ q h. used-fits _ _ _ _ (omega (arith, w .0 .nodes)) (l .loop .inv .1) _ q (k .class-in) h,
+    )
+
+add-v : tie.Need-add-v Inv-loop μ-loop
+add-v c = search needs
+
+loop-less : tie.Need-loop-less Inv-loop μ-loop
+loop-less c = search needs
+
+loop-again : tie.Need-loop-again Inv-loop μ-loop
+loop-again c =
+    let l = c .before .before .before .before .before in
+    (search needs, used-more _ _ _ _ _ _ _ (start-at _ _) (c .before .hold-of .ensures) (l .loop .inv .1) (c .raise .ensures))
+
+returns : tie.Need-returns Inv-loop μ-loop
+returns c = used-all _ _ _ _ _ (omega arith) (c .before .loop .inv .1)
+
+pub busy-of-spec : {M : Type 1} → statement M
+busy-of-spec =
+    tie.close
+    (tie.spec
+    Inv-loop
+    μ-loop
+    idle-requires
+    loop-holds
+    cast-i
+    mul-number
+    element-copy-out-number
+    cast-class
+    mul-class
+    element-copy-out-class
+    mul-raise
+    element-copy-out-raise
+    hold-of-requires
+    raise-requires
+    add-v
+    loop-less
+    loop-again
+    returns)

@@ -1,0 +1,274 @@
+-- `list_rule::list_rule` meets its contract: in each of its three loops the rest of the rule equals the whole.
+-- Assumes nothing.
+use mathlib.Core.Path.{_≡_, refl}
+use mathlib.Core.Logic.{⊎-elim}
+use Prim.Native.Nat.{_≤_, _<_, _-_}
+use native.Mathlib.Omega.{arith}
+use lib.ListN.{getD}
+use borrow.Author.Needs.{needs}
+use borrow.Author.Tests.{eqb-true, eqb-false, not-true, not-false}
+use Rattle.list_rule.specs.Tables.{numbersOf}
+use Rattle.list_rule.proofs.Laws.{tests}
+use Rattle.list_rule.proofs.Units.{Board, board-of, used-fits}
+use Rattle.list_rule.proofs.Steps.{Ordered, ordered-of, ordered-in, Filling, filling-none, filling-end, filling-done, Trying, trying-none, trying-end, trying-placed, trying-waits, trying-full, trying-put, Searching, searching-none, searching-next, searching-full, searching-end}
+use Rattle.list_rule.proofs.list_rule.Statement.{statement}
+use Rattle.list_rule.proofs.list_rule.Tie as tie
+
+abbrev Inv-loop : tie.InvT-loop
+Inv-loop form nodes order start busy p waits i₀ v number class hold q₀ q-end i q =
+    (i ≡ i₀) × (q ≤ q-end) × (q-end ≤ 1031) × Searching form (numbersOf start) v p q-end q
+
+abbrev μ-loop : tie.MeasureT-loop
+μ-loop form nodes order start busy p waits i₀ v number class hold q₀ q-end i q = q-end - q
+
+abbrev Inv-nodes : tie.InvT-nodes
+Inv-nodes form nodes order start₀ busy₀ p waits i₀ start busy i = (i ≤ form .nodes) × Trying form order start₀ p i start busy
+
+abbrev μ-nodes : tie.MeasureT-nodes
+μ-nodes form nodes order start₀ busy₀ p waits i₀ start busy i = form .nodes - i
+
+abbrev Inv-steps : tie.InvT-steps
+Inv-steps form nodes order start₀ busy₀ p₀ start busy p = (1 ≤ p) × (p ≤ 1024) × Filling form p start busy
+
+abbrev μ-steps : tie.MeasureT-steps
+μ-steps form nodes order start₀ busy₀ p₀ start busy p = 1024 - p
+
+-- the order, from the weights given
+ordered : (c : tie.After-busy-of Inv-loop μ-loop Inv-nodes μ-nodes Inv-steps μ-steps) → Ordered (c .before .before .before .args .t1) (c .before .before .order-of .result)
+ordered c =
+    let o = c .before .before in
+    ordered-of _ (o .before .args .weight) _ (o .before .pre .0 .0) (o .before .pre .1) (o .order-of .ensures .0) (o .order-of .ensures .1)
+
+order-of-requires : tie.Need-order-of-requires Inv-loop μ-loop Inv-nodes μ-nodes Inv-steps μ-steps
+order-of-requires c κs = search needs
+
+busy-of-requires : tie.Need-busy-of-requires Inv-loop μ-loop Inv-nodes μ-nodes Inv-steps μ-steps
+busy-of-requires c κs = search needs
+
+steps-holds : tie.Need-steps-holds Inv-loop μ-loop Inv-nodes μ-nodes Inv-steps μ-steps
+steps-holds c = (omega arith, omega arith, filling-none _ _ (search tests) (c .busy-of .ensures))
+
+unplaced-requires : tie.Need-unplaced-requires Inv-loop μ-loop Inv-nodes μ-nodes Inv-steps μ-steps
+unplaced-requires c κs = search needs
+
+waiting-requires : tie.Need-waiting-requires Inv-loop μ-loop Inv-nodes μ-nodes Inv-steps μ-steps
+waiting-requires c κs = search needs
+
+nodes-holds : tie.Need-nodes-holds Inv-loop μ-loop Inv-nodes μ-nodes Inv-steps μ-steps
+nodes-holds c =
+    let s = c .before .before .before .before in
+    (omega arith, trying-none _ _ _ _ (s .steps .inv .2) (omega arith) _ (c .before .before .unplaced .ensures) (c .before .if1 .left) _ (ordered (s .before)))
+
+-- the node tried is one of the form, and its class one of the board
+node-in : (c : tie.In-nodes Inv-loop μ-loop Inv-nodes μ-nodes Inv-steps μ-steps) → getD (c .before .before .before .before .before .before .before .before .before .order-of .result) (c .before .nodes .i) 0 < c .before .before .before .before .before .before .before .before .before .before .args .t1 .nodes
+node-in c = ordered-in _ _ (c .before .before .before .before .before .before .before .before .before .before .pre .0 .0) (ordered (c .before .before .before .before .before .before .before)) _ (c .nodes-test .taken)
+
+board : (c : tie.In-nodes Inv-loop μ-loop Inv-nodes μ-nodes Inv-steps μ-steps) → Board (c .before .before .before .before .before .before .before .before .before .before .args .t1) (getD (c .before .before .before .before .before .before .before .before .before .order-of .result) (c .before .nodes .i) 0)
+board c = board-of _ (c .before .before .before .before .before .before .before .before .before .before .pre .0 .0) _ (node-in c)
+
+cast-v : tie.Need-cast-v Inv-loop μ-loop Inv-nodes μ-nodes Inv-steps μ-steps
+cast-v c = search needs
+
+array-read-v : tie.Need-array-read-v Inv-loop μ-loop Inv-nodes μ-nodes Inv-steps μ-steps
+array-read-v c = search needs
+
+cast-v-2 : tie.Need-cast-v-2 Inv-loop μ-loop Inv-nodes μ-nodes Inv-steps μ-steps
+cast-v-2 c = omega (arith, node-in (c), c .before .before .before .before .before .before .before .before .before .before .pre .0 .0 .nodes .1)
+
+mul-if2 : tie.Need-mul-if2 Inv-loop μ-loop Inv-nodes μ-nodes Inv-steps μ-steps
+mul-if2 c = omega (arith, node-in (c), c .before .before .before .before .before .before .before .before .before .before .pre .0 .0 .nodes .1)
+
+element-copy-out-if2 :
+    tie.Need-element-copy-out-if2 Inv-loop μ-loop Inv-nodes μ-nodes Inv-steps μ-steps
+element-copy-out-if2 c = omega (arith, node-in (c), c .before .before .before .before .before .before .before .before .before .before .pre .0 .0 .nodes .1)
+
+mul-if3 : tie.Need-mul-if3 Inv-loop μ-loop Inv-nodes μ-nodes Inv-steps μ-steps
+mul-if3 c = omega (arith, node-in (c .before), c .before .before .before .before .before .before .before .before .before .before .before .pre .0 .0 .nodes .1)
+
+array-read-if3 : tie.Need-array-read-if3 Inv-loop μ-loop Inv-nodes μ-nodes Inv-steps μ-steps
+array-read-if3 c = omega (arith, node-in (c .before), c .before .before .before .before .before .before .before .before .before .before .before .pre .0 .0 .nodes .1)
+
+add-i : tie.Need-add-i Inv-loop μ-loop Inv-nodes μ-nodes Inv-steps μ-steps
+add-i c = search needs
+
+nodes-less : tie.Need-nodes-less Inv-loop μ-loop Inv-nodes μ-nodes Inv-steps μ-steps
+nodes-less c = search needs
+
+nodes-again : tie.Need-nodes-again Inv-loop μ-loop Inv-nodes μ-nodes Inv-steps μ-steps
+nodes-again c =
+    let n = c .before in
+    let t = n .before .nodes .inv .1 in
+    let o = ordered (n .before .before .before .before .before .before .before) in
+    let w = n .before .before .before .before .before .before .before .before .before .before .pre .0 .0 in (
+      omega arith,
+      ⊎-elim
+          (λ k. trying-placed _ _ _ _ _ _ _ t o w (n .nodes-test .taken) (k .taken))
+          (λ k. trying-waits _ _ _ _ _ _ _ t o w (n .nodes-test .taken) _ (n .before .before .waiting .ensures) (eqb-false _ _ (not-true _ (k .1 .taken))))
+          (c .if2 .came),
+    )
+
+mul-number : tie.Need-mul-number Inv-loop μ-loop Inv-nodes μ-nodes Inv-steps μ-steps
+mul-number c = omega (arith, node-in (c .before .before), c .before .before .before .before .before .before .before .before .before .before .before .before .pre .0 .0 .nodes .1)
+
+element-copy-out-number :
+    tie.Need-element-copy-out-number Inv-loop μ-loop Inv-nodes μ-nodes Inv-steps μ-steps
+element-copy-out-number c = omega (arith, node-in (c .before .before), c .before .before .before .before .before .before .before .before .before .before .before .before .pre .0 .0 .nodes .1)
+
+cast-class : tie.Need-cast-class Inv-loop μ-loop Inv-nodes μ-nodes Inv-steps μ-steps
+cast-class c = omega (arith, board (c .before .before) .class-in)
+
+mul-class : tie.Need-mul-class Inv-loop μ-loop Inv-nodes μ-nodes Inv-steps μ-steps
+mul-class c = omega (arith, board (c .before .before) .class-in)
+
+element-copy-out-class :
+    tie.Need-element-copy-out-class Inv-loop μ-loop Inv-nodes μ-nodes Inv-steps μ-steps
+element-copy-out-class c = omega (arith, board (c .before .before) .class-in)
+
+hold-of-requires : tie.Need-hold-of-requires Inv-loop μ-loop Inv-nodes μ-nodes Inv-steps μ-steps
+hold-of-requires c κs = search needs
+
+add-q-end : tie.Need-add-q-end Inv-loop μ-loop Inv-nodes μ-nodes Inv-steps μ-steps
+add-q-end c = omega (arith, board (c .before .before .before .before) .hold-in, c .hold-of .ensures, c .before .before .before .before .before .before .before .before .before .steps-test .taken)
+
+loop-holds : tie.Need-loop-holds Inv-loop μ-loop Inv-nodes μ-nodes Inv-steps μ-steps
+loop-holds c =
+    (refl, omega arith, omega (arith, board (c .before .before .before .before) .hold-in, c .hold-of .ensures, c .before .before .before .before .before .before .before .before .before .steps-test .taken), searching-none _ _ _ _ _ (c .hold-of .ensures))
+
+spot-requires : tie.Need-spot-requires Inv-loop μ-loop Inv-nodes μ-nodes Inv-steps μ-steps
+spot-requires c κs = search needs
+
+array-read-if4 : tie.Need-array-read-if4 Inv-loop μ-loop Inv-nodes μ-nodes Inv-steps μ-steps
+array-read-if4 c = omega (arith, c .spot .ensures .0, board (c .before .before .before .before .before .before .before) .class-in, c .before .loop-test .taken, c .before .before .loop .inv .2)
+
+add-i-2 : tie.Need-add-i-2 Inv-loop μ-loop Inv-nodes μ-nodes Inv-steps μ-steps
+add-i-2 c = search needs
+
+nodes-less-2 : tie.Need-nodes-less-2 Inv-loop μ-loop Inv-nodes μ-nodes Inv-steps μ-steps
+nodes-less-2 c = search needs
+
+nodes-again-2 : tie.Need-nodes-again-2 Inv-loop μ-loop Inv-nodes μ-nodes Inv-steps μ-steps
+nodes-again-2 c =
+    let l = c .before .before .before .before in
+    let n = c .before .before .before .before .before .before .before .before .before in
+    let t = n .before .nodes .inv .1 in
+    let o = ordered (n .before .before .before .before .before .before .before) in
+    let w = n .before .before .before .before .before .before .before .before .before .before .pre .0 .0 in
+    let full = searching-full _ _ _ _ _ (t .used) (board n .class-in) _ _ (l .loop .inv .3) (c .before .before .before .loop-test .taken) (omega (arith, c .before .before .before .loop-test .taken, l .loop .inv .2)) _ (c .before .before .spot .ensures .0) (omega (arith, c .if4 .taken)) in
+    rw (l .loop .inv .0) (omega (arith, n .nodes-test .taken), trying-full _ _ _ _ _ _ _ t o w (n .nodes-test .taken) _ (n .before .before .waiting .ensures) full)
+
+add-q : tie.Need-add-q Inv-loop μ-loop Inv-nodes μ-nodes Inv-steps μ-steps
+add-q c = omega (arith, c .before .before .before .loop-test .taken, c .before .before .before .before .loop .inv .2)
+
+loop-less : tie.Need-loop-less Inv-loop μ-loop Inv-nodes μ-nodes Inv-steps μ-steps
+loop-less c = search needs
+
+loop-again : tie.Need-loop-again Inv-loop μ-loop Inv-nodes μ-nodes Inv-steps μ-steps
+loop-again c =
+    let l = c .before .before .before .before in
+    let n = c .before .before .before .before .before .before .before .before .before in
+    let t = n .before .nodes .inv .1 in (
+      l .loop .inv .0,
+      omega (arith, c .before .before .before .loop-test .taken),
+      l .loop .inv .2,
+      searching-next _ _ _ _ _ (t .used) (board n .class-in) _ _ (l .loop .inv .3) (c .before .before .before .loop-test .taken) (omega (arith, c .before .before .before .loop-test .taken, l .loop .inv .2)) _ (c .before .before .spot .ensures .0) (omega (arith, c .if4 .left)),
+    )
+
+mul-start : tie.Need-mul-start Inv-loop μ-loop Inv-nodes μ-nodes Inv-steps μ-steps
+mul-start c = omega (arith, node-in (c .before .before .before .before .before .before), c .before .before .before .before .before .before .before .before .before .before .before .before .before .before .before .before .pre .0 .0 .nodes .1)
+
+array-set-from-start :
+    tie.Need-array-set-from-start Inv-loop μ-loop Inv-nodes μ-nodes Inv-steps μ-steps
+array-set-from-start c = omega (arith, node-in (c .before .before .before .before .before .before), c .before .before .before .before .before .before .before .before .before .before .before .before .before .before .before .before .pre .0 .0 .nodes .1)
+
+raise-requires : tie.Need-raise-requires Inv-loop μ-loop Inv-nodes μ-nodes Inv-steps μ-steps
+raise-requires c κs =
+    let n = c .before .before .before .before .before .before .before in
+    let u = n .before .nodes .inv .1 .used in (
+      (u .size, board n .class-in, omega (arith, c .before .before .loop .inv .2)),
+      λ q h. used-fits _ _ _ _ (n .before .before .before .before .before .before .before .before .before .before .pre .0 .0 .nodes .1) u _ q (board n .class-in) h,
+    )
+
+add-i-3 : tie.Need-add-i-3 Inv-loop μ-loop Inv-nodes μ-nodes Inv-steps μ-steps
+add-i-3 c = search needs
+
+nodes-less-3 : tie.Need-nodes-less-3 Inv-loop μ-loop Inv-nodes μ-nodes Inv-steps μ-steps
+nodes-less-3 c = search needs
+
+nodes-again-3 : tie.Need-nodes-again-3 Inv-loop μ-loop Inv-nodes μ-nodes Inv-steps μ-steps
+nodes-again-3 c =
+    let l = c .before .before .before in
+    let n = c .before .before .before .before .before .before .before .before in
+    let t = n .before .nodes .inv .1 in
+    let o = ordered (n .before .before .before .before .before .before .before) in
+    let w = n .before .before .before .before .before .before .before .before .before .before .pre .0 .0 in
+    let found = searching-end _ _ _ _ _ _ (c .before .before .loop-test .left) (l .loop .inv .3) in
+    rw (l .loop .inv .0) (omega (arith, n .nodes-test .taken), trying-put _ _ _ _ _ _ _ t o w (n .nodes-test .taken) _ (n .before .before .waiting .ensures) _ _ (c .before .before .before .before .hold-of .ensures) (c .before .before .before .before .before .before .before .if2 .left) (eqb-true _ _ (not-false _ (c .before .before .before .before .before .before .if3 .left))) found (c .raise .ensures))
+
+add-p : tie.Need-add-p Inv-loop μ-loop Inv-nodes μ-nodes Inv-steps μ-steps
+add-p c = search needs
+
+steps-less : tie.Need-steps-less Inv-loop μ-loop Inv-nodes μ-nodes Inv-steps μ-steps
+steps-less c = search needs
+
+steps-again : tie.Need-steps-again Inv-loop μ-loop Inv-nodes μ-nodes Inv-steps μ-steps
+steps-again c = (omega arith, omega arith, trying-end _ _ _ _ _ _ _ (c .before .nodes .inv .1) (c .nodes-test .left) (c .before .nodes .inv .0))
+
+returns : tie.Need-returns Inv-loop μ-loop Inv-nodes μ-nodes Inv-steps μ-steps
+returns c = filling-end _ _ _ _ (c .before .steps .inv .2) (c .steps-test .left)
+
+returns-2 : tie.Need-returns-2 Inv-loop μ-loop Inv-nodes μ-nodes Inv-steps μ-steps
+returns-2 c = filling-done _ _ _ _ (c .before .before .before .steps .inv .2) (c .before .before .steps-test .taken) _ (c .before .unplaced .ensures) (c .if1 .taken)
+
+pub list-rule-spec : {M : Type 1} → statement M
+list-rule-spec =
+    tie.close
+    (tie.spec
+    Inv-loop
+    μ-loop
+    Inv-nodes
+    μ-nodes
+    Inv-steps
+    μ-steps
+    order-of-requires
+    busy-of-requires
+    steps-holds
+    unplaced-requires
+    waiting-requires
+    nodes-holds
+    cast-v
+    array-read-v
+    cast-v-2
+    mul-if2
+    element-copy-out-if2
+    mul-if3
+    array-read-if3
+    add-i
+    nodes-less
+    nodes-again
+    mul-number
+    element-copy-out-number
+    cast-class
+    mul-class
+    element-copy-out-class
+    hold-of-requires
+    add-q-end
+    loop-holds
+    spot-requires
+    array-read-if4
+    add-i-2
+    nodes-less-2
+    nodes-again-2
+    add-q
+    loop-less
+    loop-again
+    mul-start
+    array-set-from-start
+    raise-requires
+    add-i-3
+    nodes-less-3
+    nodes-again-3
+    add-p
+    steps-less
+    steps-again
+    returns
+    returns-2)

@@ -1,0 +1,61 @@
+-- The tables of the list rule: starts as numbers, the nodes in order, units in use by step and class, edges that a node waits for.
+-- Assumes nothing.
+use mathlib.Core.Path.{_≡_}
+use mathlib.Core.Bool.{Bool, _&&_, _||_}
+use mathlib.Core.List.{List, map}
+use Prim.Native.Nat.{ℕ, _+_, _*_, _≤_, _<_}
+use lib.Dec.{eqb, ltb, leb}
+use lib.ListN.{length, getD}
+use Rattle.lists.specs.Pick.{pick}
+use Rattle.lists.specs.Span.{span}
+use Rattle.lists.specs.Fold.{count}
+use Rattle.form.specs.declared.Form.{Form}
+use Rattle.form.specs.declared.BodyStep.{BodyStep}
+use Rattle.form.specs.Places.{startOf, latencyOf, retimingOf}
+use Rattle.legal.specs.Loop.{loopOf}
+use Rattle.list_rule.specs.Rule.{uses, blocks}
+
+unfoldable pub numbersOf : List BodyStep → List ℕ
+numbersOf s = map (λ b. b .0) s
+
+unfoldable pub startsOf : Form → List ℕ
+startsOf f = numbersOf (f .start)
+
+abbrev pub weightOf : List ℕ → ℕ → ℕ
+weightOf weight v = getD weight v 0
+
+-- nodes placed before the list rule end in the longest body
+pub record Ends (f : Form) : Type 0 where
+  pub at : (v : ℕ) → v < f .nodes → startOf f v + latencyOf f v ≤ 513
+
+-- ---- units in use
+
+-- Step q and class c have the place q * 4 + c.
+
+-- an operation on class k from step s on, 0 being not placed, holds its unit, one of class c, in step q; in step past no more
+unfoldable pub holdsAt : ℕ → ℕ → ℕ → ℕ → ℕ → Bool
+holdsAt s k past c q = ltb 0 s && (eqb k c && (leb s q && ltb q past))
+
+-- one more in use where the operation holds a unit
+pub record Raised (busy : List ℕ) (s k past : ℕ) (after : List ℕ) : Type 0 where
+  pub size : length after ≡ 4128
+  pub at : (c q : ℕ) → c < 4 → q < 1032 → getD after (q * 4 + c) 0 ≡ getD busy (q * 4 + c) 0 + pick (holdsAt s k past c q) 1 0
+
+-- the units in use by the first n nodes
+pub record Used (f : Form) (s : List ℕ) (n : ℕ) (busy : List ℕ) : Type 0 where
+  pub size : length busy ≡ 4128
+  pub at : (c q : ℕ) → c < 4 → q < 1032 → getD busy (q * 4 + c) 0 ≡ count (uses (loopOf f) s c q) (span 0 n)
+
+-- ---- nodes that wait
+
+-- an edge of so many delays, between nodes of these retimings, keeps its head from starting at p
+unfoldable pub blocksAt : ℕ → ℕ → ℕ → ℕ → ℕ → ℕ → Bool
+blocksAt d tail head s t p = eqb (d + tail) head && (eqb s 0 || ltb p (s + t))
+
+-- how many of the first n edges keep v from starting at p
+unfoldable pub waitsFor : Form → List ℕ → ℕ → ℕ → ℕ → ℕ
+waitsFor f s p n v = count (λ e. eqb (getD (f .to) e 0) v && blocks (loopOf f) (retimingOf f) s p e) (span 0 n)
+
+pub record Waits (f : Form) (s : List ℕ) (p n : ℕ) (waits : List ℕ) : Type 0 where
+  pub size : length waits ≡ 64
+  pub at : (v : ℕ) → v < 64 → getD waits v 0 ≡ waitsFor f s p n v
