@@ -19,7 +19,7 @@ use Rattle.legal.specs.Shape.{Sound, Placed}
 use Rattle.machine.specs.Plain.{PlainLoop}
 use Rattle.machine.specs.Run.{Machine, issues, iteration, visit, runSteps, runOf}
 use Rattle.machine.specs.Moments.{repOf, issueStep, moment, IssuedAt, issues-step, rep-apart, in-body}
-use Rattle.machine.specs.Visits.{Clear, written, Visited, idle, stuck, goes, visited, through-steps}
+use Rattle.machine.specs.Visits.{Clear, written, Visited, idle, early, busy as full, goes, visited, through-steps}
 use Rattle.machine.specs.Sofar.{holding, holders, Ready, Roomy, Sofar, held-is, ready-timely}
 use Rattle.machine.specs.Issued.{step-moment}
 use Rattle.machine.specs.NotStuck.{blank, begins, keeps, run-plain}
@@ -109,7 +109,8 @@ module _ (g : Loop) (p : Pair) (s : Sound g) (classed : Classed g) (legal : Lega
     clear-none : (t v : ℕ) (m r : Machine) → Visited g p starts k t v m r → m .refusal ≡ None → (issues g p starts k t v ≡ true → Clear g p starts k t v m) → r .refusal ≡ None
     unfolding written
     clear-none t v m r (idle q) none clear = none
-    clear-none t v m r (stuck r′ q not-clear z) none clear = absurd (not-clear (clear q))
+    clear-none t v m r (early q late) none clear = absurd (omega (arith, clear q .timely))
+    clear-none t v m r (full q timely over) none clear = absurd (omega (arith, clear q .unit))
     clear-none t v m r (goes q c) none clear = refl
 
     legal-keeps : (t v : ℕ) (m : Machine) → 1 ≤ t → v < g .graph .nodes
