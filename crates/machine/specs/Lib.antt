@@ -13,3 +13,4 @@ pub mod Timing
 pub mod Accepted
 pub mod Refused
 pub mod Judges
+pub mod Ended
