@@ -1,11 +1,12 @@
 -- How any run ends: with all issued, or stopped at a node in a run step with the earlier issues alone in its tables.
 -- Assumes nothing.
-use mathlib.Core.Path.{_≡_, refl, sym, ap, subst}
+use mathlib.Core.Path.{_≡_, refl, sym, _∙_, ap, subst}
 use mathlib.Core.Bool.{true, false}
 use mathlib.Core.Logic.{_⊎_, inl, inr, ⊎-elim}
 use mathlib.Core.List.{List}
 use Prim.Native.Nat.{ℕ, suc, _+_, _*_, _≤_, _<_}
 use lib.ListN.{length, getD}
+use Rattle.lists.specs.Pick.{both-ways}
 use Rattle.answer.specs.Refused.{fine}
 use Rattle.answer.specs.declared.Refusal.{Refusal}
 use Rattle.answer.specs.declared.Refusal.the-variants.{None, Early, Busy}
@@ -14,7 +15,12 @@ use Rattle.legal.specs.Shape.{Sound, Placed}
 use Rattle.machine.specs.Run.{Machine, issues, lateEdge, held, visit, runSteps, runOf}
 use Rattle.machine.specs.Visits.{halted, written, Visited, idle, early, busy, goes, visited, stays, through-steps}
 use Rattle.machine.specs.Sofar.{Sofar}
-use Rattle.machine.specs.NotStuck.{blank, begins, keeps}
+use Rattle.machine.specs.Begins.{cleared-length, cleared-rest, blank, begins, keeps}
+
+-- a buffer keeps its length, and its places from n on
+pub record Kept (n : ℕ) (before after : List ℕ) : Type 0 where
+  pub long : length after ≡ length before
+  pub rest : (x : ℕ) → n ≤ x → getD after x 0 ≡ getD before x 0
 
 module _ (g : Loop) (p : Pair) (starts : List ℕ) (k : ℕ) where
   -- what stopped the run at node v in run step t: the first late edge, or, with none late, its class's units
@@ -85,3 +91,26 @@ module _ (g : Loop) (p : Pair) (s : Sound g) (b : Placed g p) (starts : List ℕ
   ended =
       through-steps g p starts k (Ends g p starts k (blank g k values finish)) ended-keeps (runSteps g p starts k) (blank g k values finish)
       (inl (refl, begins g p s b starts k values finish room room′))
+
+  -- where nothing is refused all is issued
+  pub ended-none : runOf g p starts k values finish .refusal ≡ None
+      → Sofar g p starts k (blank g k values finish) (suc (runSteps g p starts k) * g .graph .nodes) (runOf g p starts k values finish)
+  unfolding fine
+  ended-none none = ⊎-elim (λ h. h .1) (λ h. both-ways (ap fine none) (halted-stuck g p starts k (blank g k values finish) (runOf g p starts k values finish) h)) ended
+
+  -- refused or not, the run stopped at some moment
+  ended-sofar : (n : ℕ) × Sofar g p starts k (blank g k values finish) n (runOf g p starts k values finish)
+  ended-sofar = ⊎-elim (λ h. (_, h .1)) (λ h. (_, h .sofar)) ended
+
+  -- the buffers keep their places past the run
+  pub values-kept : Kept (k * g .graph .nodes) values (runOf g p starts k values finish .values)
+  unfolding blank
+  values-kept =
+      let f = ended-sofar .1 in
+      record { long = f .values-length ∙ cleared-length _ values; rest = λ x h. f .rest-values x h ∙ cleared-rest _ values x h }
+
+  pub finish-kept : Kept (k * g .graph .nodes) finish (runOf g p starts k values finish .finish)
+  unfolding blank
+  finish-kept =
+      let f = ended-sofar .1 in
+      record { long = f .finish-length ∙ cleared-length _ finish; rest = λ x h. f .rest-finish x h ∙ cleared-rest _ finish x h }

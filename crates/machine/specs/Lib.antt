@@ -8,9 +8,10 @@ pub mod Moments
 pub mod Visits
 pub mod Sofar
 pub mod Issued
+pub mod Begins
+pub mod Ended
 pub mod NotStuck
 pub mod Timing
 pub mod Accepted
 pub mod Refused
 pub mod Judges
-pub mod Ended

@@ -1,7 +1,7 @@
 -- What one visit of a node does, and what holds through all visits of a run.
 -- Assumes nothing.
-use mathlib.Core.Path.{_≡_, refl, sym, subst}
-use mathlib.Core.Bool.{Bool, true, false}
+use mathlib.Core.Path.{_≡_, sym, subst}
+use mathlib.Core.Bool.{true, false}
 use mathlib.Core.List.{List}
 use Prim.Native.Nat.{ℕ, zero, suc, _+_, _*_, _≤_, _<_}
 use native.Mathlib.Omega.{arith}
@@ -9,7 +9,7 @@ use native.Mathlib.Nat.{add-zero, zero-add, add-suc, suc-mul, one-mul}
 use borrow.Author.Tests.{ltb-true, ltb-false}
 use lib.Dec.{ltb}
 use lib.ListN.{set}
-use Rattle.lists.specs.Pick.{pick, pick-ind, pick-true, pick-false, both-ways}
+use Rattle.lists.specs.Pick.{pick, pick-ind, pick-true, pick-false}
 use Rattle.lists.specs.Span.{span}
 use Rattle.lists.specs.Fold.{fold, fold-snoc}
 use Rattle.answer.specs.Refused.{fine}
@@ -66,14 +66,6 @@ module _ (g : Loop) (p : Pair) (starts : List ℕ) (k : ℕ) where
   pub stays : (t v : ℕ) (m : Machine) → fine (m .refusal) ≡ false → visit g p starts k t m v ≡ m
   unfolding visit
   stays t v m e = pick-false (fine (m .refusal)) (pick (issues g p starts k t v) (issue g p starts k m t v) m) m e
-
-  -- a machine that goes after a visit went before it
-  pub went : (t v : ℕ) (m : Machine) → fine (visit g p starts k t m v .refusal) ≡ true → fine (m .refusal) ≡ true
-  went t v m h = go (fine (m .refusal)) refl
-    where
-      go : (b : Bool) → fine (m .refusal) ≡ b → fine (m .refusal) ≡ true
-      go true e = e
-      go false e = subst (λ (r : Machine). fine (r .refusal) ≡ true) (stays t v m e) h
 
   -- what each visit keeps holds through the nodes of a step, and through the steps of a run
   module _ (Holds : ℕ → Machine → Type 0)
