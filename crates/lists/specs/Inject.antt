@@ -3,12 +3,12 @@
 use mathlib.Core.Path.{_≡_, refl, sym, _∙_}
 use mathlib.Core.Bool.{Bool, true, false, _&&_, not}
 use mathlib.Core.Logic.{_≢_}
-use Prim.Native.Nat.{ℕ, zero, suc, _+_, _≤_, _<_}
+use Prim.Native.Nat.{ℕ, zero, suc, _≤_, _<_}
 use native.Mathlib.Omega.{arith}
 use native.Mathlib.Decide.{ℕ-discrete}
-use borrow.Author.Tests.{eqb-true, eqb-false, eq-eqb, ne-eqb}
+use borrow.Author.Tests.{eq-eqb, ne-eqb}
 use lib.Dec.{eqb}
-use Rattle.lists.specs.Pick.{pick, both-ways}
+use Rattle.lists.specs.Pick.{pick}
 use Rattle.lists.specs.Span.{span}
 use Rattle.lists.specs.Fold.{count}
 use Rattle.lists.specs.Count.{count-last, count-same}

@@ -4,7 +4,6 @@ use mathlib.Core.Path.{_≡_}
 use Prim.Native.Nat.{ℕ, suc, _+_, _*_, _/_, _%_, _≤_, _<_}
 use native.Mathlib.Omega.{arith}
 use native.Mathlib.Nat.{suc-mul, mul-le-mul-right, div-eq-of-lt-le, div-add-mod', mod-lt, div-lt-iff-lt-mul}
-use native.Mathlib.Decide.{decLt}
 use native.Mathlib.Numerals.{add-one}
 
 -- what q times n and a rest below n is divided by n
@@ -17,10 +16,6 @@ divided q n x t h e =
 -- fewer rows hold less
 pub rows-below : (q r n : ℕ) → q < r → q * n + n ≤ r * n
 rows-below q r n h = omega (arith, suc-mul q n, mul-le-mul-right {m = suc q} {n = r} n h)
-
--- what starts in fewer than r rows ends in them
-pub rows-within : (q r n x : ℕ) → q * n + x < r * n → q < r
-rows-within q r n x h = elim (decLt q r) [ yes l ↦ l | no l ↦ absurd (omega (arith, mul-le-mul-right {m = r} {n = q} n (omega arith))) ]
 
 -- a place tells its row and its column
 pub rows-apart : (i j n v w : ℕ) → v < n → w < n → i * n + v ≡ j * n + w → (i ≡ j) × (v ≡ w)

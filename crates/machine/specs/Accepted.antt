@@ -1,29 +1,31 @@
 -- The run of a legal pair is never refused, so its values are the plain loop's.
 -- Assumes nothing.
 use mathlib.Core.Path.{_≡_, refl, sym, _∙_, ap, subst}
-use mathlib.Core.Bool.{Bool, true, false}
-use mathlib.Core.Logic.{_≢_}
+use mathlib.Core.Bool.{Bool, true}
+use mathlib.Core.Logic.{_≢_, ⊎-elim}
 use mathlib.Core.List.{List}
-use Prim.Native.Nat.{ℕ, zero, suc, _+_, _-_, _*_, _/_, _%_, _≤_, _<_}
+use Prim.Native.Nat.{ℕ, _+_, _-_, _*_, _/_, _%_, _≤_, _<_}
 use native.Mathlib.Omega.{arith}
-use lib.ListN.{length}
-use Rattle.lists.specs.Span.{span}
-use Rattle.lists.specs.Fold.{count}
+use lib.ListN.{length, getD}
 use Rattle.lists.specs.Quotient.{row-of}
 use Rattle.lists.specs.Inject.{without, without-other, count-without, count-inject}
-use Rattle.answer.specs.Refused.{fine}
 use Rattle.answer.specs.declared.Refusal.the-variants.{None}
-use Rattle.legal.specs.Loop.{Loop, Pair, runsOn, hold}
+use Rattle.legal.specs.Loop.{Loop, Pair, runsOn}
 use Rattle.legal.specs.Legal.{Legal, occupies, busy}
 use Rattle.legal.specs.Shape.{Sound, Placed}
+use Rattle.legal.specs.Paced.{legal-free}
+use Rattle.machine.specs.Values.{placeOf}
 use Rattle.machine.specs.Plain.{PlainLoop}
-use Rattle.machine.specs.Run.{Machine, issues, iteration, visit, runSteps, runOf}
+use Rattle.machine.specs.Unique.{unique}
+use Rattle.machine.specs.Run.{Machine, issues, iteration, runOf}
 use Rattle.machine.specs.Moments.{repOf, issueStep, moment, IssuedAt, issues-step, rep-apart, in-body}
-use Rattle.machine.specs.Visits.{Clear, written, Visited, idle, stuck, goes, visited, through-steps}
+use Rattle.machine.specs.Visits.{Clear}
 use Rattle.machine.specs.Sofar.{holding, holders, Ready, Roomy, Sofar, held-is, ready-timely}
 use Rattle.machine.specs.Issued.{step-moment}
-use Rattle.machine.specs.NotStuck.{blank, begins, keeps, run-plain}
-use Rattle.machine.specs.Timing.{Occupant, Holder, occupies-tells, occupant-occupies, holding-tells, rule-steps, Together, holder-together, hold-some}
+use Rattle.machine.specs.Begins.{blank}
+use Rattle.machine.specs.Ended.{Halted, ended}
+use Rattle.machine.specs.NotStuck.{run-plain}
+use Rattle.machine.specs.Timing.{occupant-occupies, holding-tells, rule-steps, Together, holder-together, hold-some}
 
 -- every node runs on a class of the board
 abbrev pub Classed : Loop → Type 0
@@ -106,28 +108,20 @@ module _ (g : Loop) (p : Pair) (s : Sound g) (classed : Classed g) (legal : Lega
           unit = omega (arith, held-is g p s starts k m₀ n m f (runsOn g v) t);
         }
 
-    clear-none : (t v : ℕ) (m r : Machine) → Visited g p starts k t v m r → m .refusal ≡ None → (issues g p starts k t v ≡ true → Clear g p starts k t v m) → r .refusal ≡ None
-    unfolding written
-    clear-none t v m r (idle q) none clear = none
-    clear-none t v m r (stuck r′ q not-clear z) none clear = absurd (not-clear (clear q))
-    clear-none t v m r (goes q c) none clear = refl
-
-    legal-keeps : (t v : ℕ) (m : Machine) → 1 ≤ t → v < g .graph .nodes
-        → (m .refusal ≡ None) × Sofar g p starts k (blank g k values finish) (t * g .graph .nodes + v) m
-        → (visit g p starts k t m v .refusal ≡ None) × Sofar g p starts k (blank g k values finish) (suc (t * g .graph .nodes + v)) (visit g p starts k t m v)
-    unfolding fine
-    legal-keeps t v m one l h =
-        let before : fine (m .refusal) ≡ true = ap fine (h .0) in
-        let none : visit g p starts k t m v .refusal ≡ None = clear-none t v m (visit g p starts k t m v) (visited g p starts k t v m before) (h .0) (legal-clear t v m one l (h .1)) in
-        (none, keeps g p s (legal-placed g p legal) starts k values finish room room′ t v m one l before (ap fine none) (h .1))
-
     -- the run of a legal pair is never refused
     pub accepted : runOf g p starts k values finish .refusal ≡ None
-    unfolding runOf blank
-    accepted =
-        through-steps g p starts k (λ n m. (m .refusal ≡ None) × Sofar g p starts k (blank g k values finish) n m) legal-keeps
-        (runSteps g p starts k) (blank g k values finish) (refl, begins g p s (legal-placed g p legal) starts k values finish room room′) .0
+    accepted = ⊎-elim (λ h. h .0) never (ended g p s (legal-placed g p legal) starts k values finish room room′)
+      where
+        never : Halted g p starts k (blank g k values finish) (runOf g p starts k values finish) → runOf g p starts k values finish .refusal ≡ None
+        never h =
+            let c = legal-clear (h .step) (h .node) (runOf g p starts k values finish) (h .step-some) (h .node-in) (h .sofar) (h .issuing) in
+            ⊎-elim (λ w. absurd (omega (arith, c .timely, w .1))) (λ w. absurd (omega (arith, c .unit, w .2))) (h .why)
 
     -- and its values are the plain loop's
     pub accepted-plain : PlainLoop g starts k (runOf g p starts k values finish .values)
     accepted-plain = run-plain g p s (legal-placed g p legal) starts k values finish room room′ accepted
+
+    -- and those of every table that is
+    pub accepted-agrees : (ys : List ℕ) → PlainLoop g starts k ys → (i v : ℕ) → i < k → v < g .graph .nodes
+        → getD (runOf g p starts k values finish .values) (placeOf g starts i v) 0 ≡ getD ys (placeOf g starts i v) 0
+    accepted-agrees ys plain = unique g s starts k (runOf g p starts k values finish .values) ys accepted-plain plain (legal-free g p s legal)

@@ -1,10 +1,10 @@
 -- A visit that is not refused takes what holds at its moment to the next.
 -- Assumes nothing.
-use mathlib.Core.Path.{_≡_, refl, sym, _∙_, ap, ap₂, subst, subst₂}
-use mathlib.Core.Bool.{Bool, true, false, true≢false}
+use mathlib.Core.Path.{_≡_, refl, sym, _∙_, ap, ap₂, subst₂}
+use mathlib.Core.Bool.{true, false, false≢true}
 use mathlib.Core.Logic.{_≢_, ⊎-elim}
 use mathlib.Core.List.{List}
-use Prim.Native.Nat.{ℕ, zero, suc, _+_, _-_, _*_, _≤_, _<_}
+use Prim.Native.Nat.{ℕ, suc, _+_, _-_, _*_, _≤_, _<_}
 use native.Mathlib.Omega.{arith}
 use native.Mathlib.Nat.{eq-or-lt-of-le, le-of-suc-le-suc}
 use lib.ListN.{length, getD, set, length-set}
@@ -15,11 +15,11 @@ use Rattle.answer.specs.Refused.{fine}
 use Rattle.legal.specs.Loop.{Loop, Pair, runsOn, latency}
 use Rattle.legal.specs.Shape.{Sound, Placed}
 use Rattle.machine.specs.Values.{placeOf, computed}
-use Rattle.machine.specs.Run.{Machine, issues, iteration, visit}
+use Rattle.machine.specs.Run.{Machine, issues, iteration}
 use Rattle.machine.specs.Reads.{computed-same}
 use Rattle.machine.specs.Moments.{issueStep, moment, IssuedAt, issues-step, step-issues, moment-apart}
-use Rattle.machine.specs.Visits.{Clear, written, Visited, idle, stuck, goes, visited}
-use Rattle.machine.specs.Sofar.{Ready, Issued, Unissued, Sofar, step-before, held-is, timely-ready, holders}
+use Rattle.machine.specs.Visits.{Clear, written, Visited, idle, early, busy, goes}
+use Rattle.machine.specs.Sofar.{Ready, Issued, Sofar, step-before, held-is, timely-ready}
 
 module _ (g : Loop) (p : Pair) (s : Sound g) (b : Placed g p) (starts : List ℕ) (k : ℕ) (m₀ : Machine) where
   -- ---- a visit that issues nothing
@@ -135,6 +135,8 @@ module _ (g : Loop) (p : Pair) (s : Sound g) (b : Placed g p) (starts : List ℕ
 
     -- what a visit makes of it, unless it is refused
     pub visited-keeps : 1 ≤ t → (r : Machine) → Visited g p starts k t v m r → fine (r .refusal) ≡ true → Sofar g p starts k m₀ (suc (t * g .graph .nodes + v)) r
+    unfolding fine
     visited-keeps one r (idle q) h = idle-keeps t v m l q f
-    visited-keeps one r (stuck r′ q not-clear z) h = both-ways h z
+    visited-keeps one r (early q late) h = absurd (false≢true h)
+    visited-keeps one r (busy q timely full) h = absurd (false≢true h)
     visited-keeps one r (goes q c) h = goes-keeps (issues-step g p s b starts k t v one l q) c

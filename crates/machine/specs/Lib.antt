@@ -8,6 +8,8 @@ pub mod Moments
 pub mod Visits
 pub mod Sofar
 pub mod Issued
+pub mod Begins
+pub mod Ended
 pub mod NotStuck
 pub mod Timing
 pub mod Accepted

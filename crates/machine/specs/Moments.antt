@@ -14,7 +14,7 @@ use Rattle.lists.specs.Fold.{top-over}
 use Rattle.lists.specs.Quotient.{divided, rows-below, rows-apart}
 use Rattle.legal.specs.Loop.{Loop, Pair}
 use Rattle.legal.specs.Shape.{Sound, Placed}
-use Rattle.machine.specs.Run.{depth, bodyStep, repetition, issues, iteration, runSteps}
+use Rattle.machine.specs.Run.{depth, issues, iteration, runSteps}
 
 -- no retiming is above the depth
 pub under-depth : (g : Loop) (p : Pair) (v : ℕ) → v < g .graph .nodes → p .retiming v ≤ depth g p

@@ -2,15 +2,15 @@
 -- Assumes nothing.
 use mathlib.Core.Path.{_≡_, refl, ap}
 use mathlib.Core.Bool.{Bool, true, false}
-use mathlib.Core.List.{List, [], _∷_, map}
+use mathlib.Core.List.{List, _∷_, map}
 use Prim.Native.Nat.{ℕ, zero, suc, _+_, _-_, _≤_, _<_}
 use native.Mathlib.Omega.{arith}
 use borrow.Author.Tests.{eqb-true, ltb-false}
-use lib.Dec.{eqb, ltb}
+use lib.Dec.{eqb}
 use lib.ListN.{getD}
 use Rattle.lists.specs.Pick.{pick}
 use Rattle.legal.specs.Loop.{Loop}
-use Rattle.machine.specs.Values.{applied, edgesInto, incoming, placeOf, fromStart, operand, computed}
+use Rattle.machine.specs.Values.{applied, edgesInto, placeOf, fromStart, operand, computed}
 
 pick-right : (b : Bool) (x y z : ℕ) → (b ≡ false → y ≡ z) → pick b x y ≡ pick b x z
 unfolding pick

@@ -1,24 +1,22 @@
 -- A run of more iterations than the depth that is never refused has a legal pair: what breaks a rule is refused.
 -- Assumes nothing.
 use mathlib.Core.Path.{_≡_, refl, sym, _∙_, ap, subst, subst₂}
-use mathlib.Core.Bool.{Bool, true, false}
-use mathlib.Core.Logic.{_≢_, _⊎_, inl, inr, ⊎-elim}
+use mathlib.Core.Bool.{true}
+use mathlib.Core.Logic.{_≢_, ⊎-elim}
 use mathlib.Core.List.{List}
-use Prim.Native.Nat.{ℕ, zero, suc, _+_, _-_, _*_, _/_, _%_, _≤_, _<_}
+use Prim.Native.Nat.{ℕ, _+_, _-_, _*_, _≤_, _<_}
 use native.Mathlib.Omega.{arith}
-use native.Mathlib.Decide.{decLe, decLt}
-use native.Mathlib.Nat.{mul-comm, eq-or-lt-of-le, le-of-suc-le-suc}
+use native.Mathlib.Decide.{decLe}
+use native.Mathlib.Nat.{mul-comm, eq-or-lt-of-le}
 use lib.ListN.{length}
 use Rattle.lists.specs.Pick.{both-ways}
-use Rattle.lists.specs.Span.{span}
-use Rattle.lists.specs.Fold.{count}
 use Rattle.lists.specs.Count.{count-some}
 use Rattle.lists.specs.Last.{Last, last-or-none}
 use Rattle.lists.specs.Quotient.{divided, rows-below, rows-apart}
 use Rattle.lists.specs.Inject.{without, without-other, without-same, count-without, count-inject}
 use Rattle.answer.specs.declared.Refusal.the-variants.{None}
-use Rattle.legal.specs.Loop.{Loop, Pair, runsOn, latency, hold}
-use Rattle.legal.specs.Legal.{Legal, EdgeRule, UnitRule, Knot, occupies, busy}
+use Rattle.legal.specs.Loop.{Loop, Pair}
+use Rattle.legal.specs.Legal.{Legal, EdgeRule, Knot, occupies, busy}
 use Rattle.legal.specs.Shape.{Sound, Placed}
 use Rattle.legal.specs.Limits.{EdgeRules}
 use Rattle.legal.specs.Paced.{legal-free}
@@ -26,7 +24,7 @@ use Rattle.machine.specs.Run.{depth, runOf}
 use Rattle.machine.specs.Moments.{under-depth, repOf, issueStep, moment, in-body, moment-apart}
 use Rattle.machine.specs.Sofar.{holding, holders}
 use Rattle.machine.specs.NotStuck.{run-issued}
-use Rattle.machine.specs.Timing.{Occupant, Holder, occupies-tells, holder-holding, steps-rule}
+use Rattle.machine.specs.Timing.{Holder, occupies-tells, holder-holding, steps-rule}
 
 module _ (g : Loop) (p : Pair) (s : Sound g) (b : Placed g p) (starts : List ℕ) (k : ℕ) (values finish : List ℕ)
     (room : k * g .graph .nodes ≤ length values) (room′ : k * g .graph .nodes ≤ length finish) (deep : depth g p < k)

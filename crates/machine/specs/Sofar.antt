@@ -4,7 +4,7 @@ use mathlib.Core.Path.{_≡_, refl, sym, _∙_, ap}
 use mathlib.Core.Bool.{Bool, true, false, _&&_, _||_, not}
 use mathlib.Core.Logic.{_≢_}
 use mathlib.Core.List.{List}
-use Prim.Native.Nat.{ℕ, zero, suc, _+_, _-_, _*_, _/_, _%_, _≤_, _<_}
+use Prim.Native.Nat.{ℕ, _+_, _-_, _*_, _/_, _%_, _≤_, _<_}
 use native.Mathlib.Omega.{arith}
 use native.Mathlib.Decide.{decLt}
 use native.Mathlib.Nat.{add-sub-cancel}
@@ -14,12 +14,12 @@ use lib.ListN.{length, getD}
 use Rattle.lists.specs.Tests.{neither}
 use Rattle.lists.specs.Span.{span}
 use Rattle.lists.specs.Fold.{count}
-use Rattle.lists.specs.First.{firstFrom, first-is, first-past}
+use Rattle.lists.specs.First.{first-is, first-past}
 use Rattle.lists.specs.Count.{count-same}
 use Rattle.lists.specs.Quotient.{row-of, rows-below}
 use Rattle.legal.specs.Loop.{Loop, Pair, runsOn, latency, hold}
 use Rattle.legal.specs.Shape.{Sound}
-use Rattle.machine.specs.Values.{placeOf, fromStart, computed}
+use Rattle.machine.specs.Values.{placeOf, computed}
 use Rattle.machine.specs.Run.{Machine, iteration, late, lateEdge, holds, held}
 use Rattle.machine.specs.Moments.{issueStep, moment}
 

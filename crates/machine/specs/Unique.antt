@@ -1,9 +1,8 @@
 -- Where the loop has no knot, at most one table of values is the plain loop's.
 -- Assumes nothing.
 use mathlib.Core.Path.{_≡_, sym, _∙_}
-use mathlib.Core.Bool.{true}
 use mathlib.Core.List.{List}
-use Prim.Native.Nat.{ℕ, zero, suc, _+_, _-_, _*_, _≤_, _<_}
+use Prim.Native.Nat.{ℕ, zero, suc, _-_, _≤_, _<_}
 use native.Mathlib.Omega.{arith}
 use native.Mathlib.Decide.{decLt}
 use borrow.Author.Tests.{not-false}
@@ -14,7 +13,7 @@ use Rattle.legal.specs.Loop.{Loop}
 use Rattle.legal.specs.Systems.{knots, knotted}
 use Rattle.legal.specs.Shape.{Sound}
 use Rattle.legal.specs.Knots.{Free, free-unknotted}
-use Rattle.machine.specs.Values.{placeOf, computed}
+use Rattle.machine.specs.Values.{placeOf}
 use Rattle.machine.specs.Plain.{PlainLoop}
 use Rattle.machine.specs.Reads.{computed-same}
 

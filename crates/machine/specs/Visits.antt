@@ -1,15 +1,15 @@
 -- What one visit of a node does, and what holds through all visits of a run.
 -- Assumes nothing.
-use mathlib.Core.Path.{_≡_, refl, sym, subst}
-use mathlib.Core.Bool.{Bool, true, false}
+use mathlib.Core.Path.{_≡_, sym, subst}
+use mathlib.Core.Bool.{true, false}
 use mathlib.Core.List.{List}
 use Prim.Native.Nat.{ℕ, zero, suc, _+_, _*_, _≤_, _<_}
 use native.Mathlib.Omega.{arith}
-use native.Mathlib.Nat.{add-zero, zero-add, add-suc, suc-mul, one-mul, not-le-of-lt}
+use native.Mathlib.Nat.{add-zero, zero-add, add-suc, suc-mul, one-mul}
 use borrow.Author.Tests.{ltb-true, ltb-false}
 use lib.Dec.{ltb}
 use lib.ListN.{set}
-use Rattle.lists.specs.Pick.{pick, pick-ind, pick-true, pick-false, both-ways}
+use Rattle.lists.specs.Pick.{pick, pick-ind, pick-true, pick-false}
 use Rattle.lists.specs.Span.{span}
 use Rattle.lists.specs.Fold.{fold, fold-snoc}
 use Rattle.answer.specs.Refused.{fine}
@@ -18,6 +18,10 @@ use Rattle.answer.specs.declared.Refusal.the-variants.{None, Early, Busy}
 use Rattle.legal.specs.Loop.{Loop, Pair, runsOn, latency}
 use Rattle.machine.specs.Values.{placeOf, computed}
 use Rattle.machine.specs.Run.{Machine, issues, iteration, lateEdge, held, issue, visit, stepOf, ran}
+
+-- a machine stopped, with its tables as they are
+abbrev pub halted : Machine → Refusal → Machine
+halted m why = record { values = m .values; finish = m .finish; refusal = why }
 
 module _ (g : Loop) (p : Pair) (starts : List ℕ) (k : ℕ) where
   -- node v finds its operands finished and a unit in run step t
@@ -36,17 +40,21 @@ module _ (g : Loop) (p : Pair) (starts : List ℕ) (k : ℕ) where
   -- what a visit makes of a machine that goes
   pub data Visited (t v : ℕ) (m : Machine) : Machine → Type 0 where
     idle : issues g p starts k t v ≡ false → Visited t v m m
-    stuck : (r : Machine) → issues g p starts k t v ≡ true → (Clear t v m → ⊥) → fine (r .refusal) ≡ false → Visited t v m r
+    early : issues g p starts k t v ≡ true → lateEdge g p starts k (m .finish) t v < g .graph .edges
+        → Visited t v m (halted m (Early t v (lateEdge g p starts k (m .finish) t v)))
+    busy : issues g p starts k t v ≡ true → g .graph .edges ≤ lateEdge g p starts k (m .finish) t v
+        → g .class (runsOn g v) .units ≤ held g p starts k (m .finish) (runsOn g v) t
+        → Visited t v m (halted m (Busy t v (runsOn g v)))
     goes : issues g p starts k t v ≡ true → Clear t v m → Visited t v m (written t v m)
 
   issue-visited : (t v : ℕ) (m : Machine) → issues g p starts k t v ≡ true → Visited t v m (issue g p starts k m t v)
-  unfolding issue written fine
+  unfolding issue written
   issue-visited t v m q =
       pick-ind (Visited t v m) (ltb (lateEdge g p starts k (m .finish) t v) (g .graph .edges)) _ _
-      (λ e. stuck _ q (λ c. not-le-of-lt (ltb-true _ _ e) (c .timely)) refl)
+      (λ e. early q (ltb-true _ _ e))
       (λ e. pick-ind (Visited t v m) (ltb (held g p starts k (m .finish) (runsOn g v) t) (g .class (runsOn g v) .units)) _ _
       (λ f. goes q (record { timely = ltb-false _ _ e; unit = ltb-true _ _ f }))
-      (λ f. stuck _ q (λ c. not-le-of-lt (c .unit) (ltb-false _ _ f)) refl))
+      (λ f. busy q (ltb-false _ _ e) (ltb-false _ _ f)))
 
   pub visited : (t v : ℕ) (m : Machine) → fine (m .refusal) ≡ true → Visited t v m (visit g p starts k t m v)
   unfolding visit
@@ -54,15 +62,10 @@ module _ (g : Loop) (p : Pair) (starts : List ℕ) (k : ℕ) where
       subst (Visited t v m) (sym (pick-true (fine (m .refusal)) (pick (issues g p starts k t v) (issue g p starts k m t v) m) m f))
       (pick-ind (Visited t v m) (issues g p starts k t v) (issue g p starts k m t v) m (issue-visited t v m) idle)
 
-  -- a machine that goes after a visit went before it
-  pub went : (t v : ℕ) (m : Machine) → fine (visit g p starts k t m v .refusal) ≡ true → fine (m .refusal) ≡ true
+  -- a machine that is stopped stays as it is
+  pub stays : (t v : ℕ) (m : Machine) → fine (m .refusal) ≡ false → visit g p starts k t m v ≡ m
   unfolding visit
-  went t v m h = go (fine (m .refusal)) refl
-    where
-      go : (b : Bool) → fine (m .refusal) ≡ b → fine (m .refusal) ≡ true
-      go true e = e
-      go false e =
-          subst (λ (r : Machine). fine (r .refusal) ≡ true) (pick-false (fine (m .refusal)) (pick (issues g p starts k t v) (issue g p starts k m t v) m) m e) h
+  stays t v m e = pick-false (fine (m .refusal)) (pick (issues g p starts k t v) (issue g p starts k m t v) m) m e
 
   -- what each visit keeps holds through the nodes of a step, and through the steps of a run
   module _ (Holds : ℕ → Machine → Type 0)
