@@ -5,3 +5,4 @@ pub mod First
 pub mod Pigeon
 pub mod Place
 pub mod Count
+pub mod Sums
