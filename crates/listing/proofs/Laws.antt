@@ -1,0 +1,77 @@
+-- Runs of text laid one after the other: bytes, numbers, nodes, lines.
+-- Assumes nothing.
+use mathlib.Core.Path.{_≡_, refl, sym, _∙_}
+use mathlib.Core.List.{List, [], _∷_, _++_}
+use mathlib.Core.Logic.{_≢_}
+use Prim.Native.Nat.{ℕ, _+_, _/_, _%_, _≤_, _<_}
+use native.Mathlib.Numerals.{add-one}
+use native.Mathlib.Omega.{arith}
+use lib.Dec.{eqb}
+use lib.ListN.{length, getD, take}
+use lib.Seq.{set-out, take-suc, take-all}
+use borrow.Author.Needs.{needs}
+use borrow.Author.Tests.{le-ltb, lt-ltb, eq-eqb, ne-eqb}
+use Rattle.lists.specs.Pick.{pick, pick-true, pick-false}
+use Rattle.writer.specs.Laid.{Laid}
+use Rattle.writer.proofs.Laws.{nothing, both}
+use Rattle.listing.specs.Text.{decimal}
+use Rattle.listing.specs.Lines.{retimingText}
+
+pub ruleset tests = (needs, le-ltb, lt-ltb, eq-eqb, ne-eqb)
+
+-- ---- bytes
+
+-- past the end of a buffer nothing is put
+pub no-room : (l : List ℕ) (at byte : ℕ) → length l ≤ at → Laid l at (byte ∷ []) l (at + 1)
+no-room l at byte h = record { is = sym (set-out l at byte h); ends = refl }
+
+module _ (l : List ℕ) (at : ℕ) (s : List ℕ) where
+  -- one byte more of a word
+  pub byte-more : (m n : List ℕ) (i e f : ℕ) → i < length s → Laid l at (take i s) m e → Laid m e (getD s i 0 ∷ []) n f → Laid l at (take (i + 1) s) n f
+  byte-more m n i e f h x y = rw (add-one, take-suc s i 0 h) (both l at (take i s) (getD s i 0 ∷ []) m n e f x y)
+
+  -- its last byte is put
+  pub word-whole : (m : List ℕ) (i e : ℕ) → length s ≤ i → Laid l at (take i s) m e → Laid l at s m e
+  word-whole m i e h x = rw (take-all i s h) at x
+
+-- ---- numbers
+
+module _ (l : List ℕ) (at n : ℕ) where
+  pub one-digit : (m : List ℕ) (e a : ℕ) → n < 10 → a ≡ 48 + n → Laid l at (a ∷ []) m e → Laid l at (decimal n) m e
+  unfolding decimal
+  one-digit m e a h ea x = rw (pick-true _ _ _ (lt-ltb n 10 h), ← ea) x
+
+  pub two-digits : (m o : List ℕ) (e f a b : ℕ) → 10 ≤ n → n < 100 → a ≡ 48 + n / 10 → b ≡ 48 + n % 10
+      → Laid l at (a ∷ []) m e → Laid m e (b ∷ []) o f → Laid l at (decimal n) o f
+  unfolding decimal
+  two-digits m o e f a b g h ea eb x y =
+      rw (pick-false _ _ _ (le-ltb n 10 g), pick-true _ _ _ (lt-ltb n 100 h), ← ea, ← eb) (both l at (a ∷ []) (b ∷ []) m o e f x y)
+
+  pub three-digits : (m o p : List ℕ) (e f g a b d : ℕ) → 100 ≤ n → a ≡ 48 + n / 100 → b ≡ 48 + n / 10 % 10 → d ≡ 48 + n % 10
+      → Laid l at (a ∷ []) m e → Laid m e (b ∷ []) o f → Laid o f (d ∷ []) p g → Laid l at (decimal n) p g
+  unfolding decimal
+  three-digits m o p e f g a b d h ea eb ed x y z =
+      rw (pick-false _ _ _ (le-ltb n 10 (omega arith)), pick-false _ _ _ (le-ltb n 100 h), ← ea, ← eb, ← ed)
+      (both l at (a ∷ []) (b ∷ d ∷ []) m p e g x (both m e (b ∷ []) (d ∷ []) o p f g y z))
+
+-- ---- a node
+
+module _ (l : List ℕ) (at r : ℕ) where
+  pub retiming-none : r ≡ 0 → Laid l at (retimingText r) l at
+  unfolding retimingText
+  retiming-none h = rw (pick-true _ _ _ (eq-eqb r 0 h)) (nothing l at)
+
+  pub retiming-some : (m o : List ℕ) (e f : ℕ) → r ≢ 0 → Laid l at (43 ∷ []) m e → Laid m e (decimal r) o f → Laid l at (retimingText r) o f
+  unfolding retimingText
+  retiming-some m o e f h x y = rw (pick-false _ _ _ (ne-eqb r 0 h)) (both l at (43 ∷ []) (decimal r) m o e f x y)
+
+module _ (l : List ℕ) (at s q v r : ℕ) where
+  abbrev text : List ℕ
+  text = pick (eqb s q) (32 ∷ (decimal v ++ retimingText r)) []
+
+  pub node-elsewhere : s ≢ q → Laid l at text l at
+  node-elsewhere h = rw (pick-false _ _ _ (ne-eqb s q h)) (nothing l at)
+
+  pub node-here : (m o p : List ℕ) (e f g : ℕ) → s ≡ q → Laid l at (32 ∷ []) m e → Laid m e (decimal v) o f → Laid o f (retimingText r) p g → Laid l at text p g
+  node-here m o p e f g h x y z =
+      rw (pick-true _ _ _ (eq-eqb s q h)) (both l at (32 ∷ []) (decimal v ++ retimingText r) m p e g x (both m e (decimal v) (retimingText r) o p f g y z))
