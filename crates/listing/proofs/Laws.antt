@@ -1,9 +1,9 @@
 -- Runs of text laid one after the other: bytes, numbers, nodes, lines.
 -- Assumes nothing.
 use mathlib.Core.Path.{_≡_, refl, sym, _∙_}
-use mathlib.Core.List.{List, [], _∷_, _++_}
+use mathlib.Core.List.{List, [], _∷_, _++_, map}
 use mathlib.Core.Logic.{_≢_}
-use Prim.Native.Nat.{ℕ, _+_, _/_, _%_, _≤_, _<_}
+use Prim.Native.Nat.{ℕ, _+_, _/_, _%_, _≤_, _<_, max}
 use native.Mathlib.Numerals.{add-one}
 use native.Mathlib.Omega.{arith}
 use lib.Dec.{eqb}
@@ -12,10 +12,16 @@ use lib.Seq.{set-out, take-suc, take-all}
 use borrow.Author.Needs.{needs}
 use borrow.Author.Tests.{le-ltb, lt-ltb, eq-eqb, ne-eqb}
 use Rattle.lists.specs.Pick.{pick, pick-true, pick-false}
+use Rattle.lists.specs.Span.{span}
+use Rattle.lists.specs.Fold.{top}
+use Rattle.lists.specs.Sums.{top-none, top-last}
+use Rattle.form.specs.declared.Form.{Form}
+use Rattle.form.specs.Places.{startOf, retimingOf}
+use Rattle.writer.specs.Layout.{rows}
 use Rattle.writer.specs.Laid.{Laid}
-use Rattle.writer.proofs.Laws.{nothing, both}
-use Rattle.listing.specs.Text.{decimal}
-use Rattle.listing.specs.Lines.{retimingText}
+use Rattle.writer.proofs.Laws.{nothing, both, row-more}
+use Rattle.listing.specs.Text.{decimal, newline}
+use Rattle.listing.specs.Lines.{depthOf, retimingText, nodeText, nodesText, orIdle, stepLine}
 
 pub ruleset tests = (needs, le-ltb, lt-ltb, eq-eqb, ne-eqb)
 
@@ -75,3 +81,57 @@ module _ (l : List ℕ) (at s q v r : ℕ) where
   pub node-here : (m o p : List ℕ) (e f g : ℕ) → s ≡ q → Laid l at (32 ∷ []) m e → Laid m e (decimal v) o f → Laid o f (retimingText r) p g → Laid l at text p g
   node-here m o p e f g h x y z =
       rw (pick-true _ _ _ (eq-eqb s q h)) (both l at (32 ∷ []) (decimal v ++ retimingText r) m p e g x (both m e (decimal v) (retimingText r) o p f g y z))
+
+module _ (f : Form) where
+  -- the nodes of a step, one more and all
+  module _ (l : List ℕ) (at q : ℕ) where
+    pub node-more : (m o : List ℕ) (i e g : ℕ) → Laid l at (rows (nodeText f q) i) m e → Laid m e (text l at (startOf f i) q i (retimingOf f i)) o g → Laid l at (rows (nodeText f q) (i + 1)) o g
+    unfolding nodeText
+    node-more m o i e g x y = row-more l at (nodeText f q) i m o e g x y
+
+    pub nodes-whole : (m : List ℕ) (i e : ℕ) → Laid l at (rows (nodeText f q) i) m e → i ≡ f .nodes → Laid l at (nodesText f q) m e
+    unfolding nodesText
+    nodes-whole m i e x h = rw h at x
+
+  -- the largest retiming so far, and of all
+  unfoldable pub depthTo : ℕ → ℕ
+  depthTo i = top (map (retimingOf f) (span 0 i))
+
+  pub depth-none : 0 ≡ depthTo 0
+  unfolding depthTo
+  depth-none = sym (top-none (retimingOf f) 0)
+
+  pub depth-more : (i d r : ℕ) → d ≡ depthTo i → r ≡ max d (retimingOf f i) → r ≡ depthTo (i + 1)
+  unfolding depthTo
+  depth-more i d r x y = rw (add-one, top-last, ← x) y
+
+  pub depth-whole : (i d : ℕ) → d ≡ depthTo i → i ≡ f .nodes → d ≡ depthOf f
+  unfolding depthTo depthOf
+  depth-whole i d x h = rw h at x
+
+-- ---- a step's line
+
+empty : (text : List ℕ) → length text ≡ 0 → text ≡ []
+empty [] h = refl
+empty (x ∷ xs) h = absurd (omega arith)
+
+idle-end : (text : List ℕ) → length text ≡ 0 → text ++ (32 ∷ 45 ∷ 10 ∷ []) ≡ orIdle text ++ newline
+unfolding orIdle pick
+idle-end text h = rw (empty text h)
+
+some-end : (text : List ℕ) → length text ≢ 0 → text ++ (10 ∷ []) ≡ orIdle text ++ newline
+unfolding orIdle
+some-end text h = rw (pick-false _ _ _ (ne-eqb (length text) 0 h))
+
+module _ (f : Form) (l : List ℕ) (at q : ℕ) (m o p : List ℕ) (e g h : ℕ) (x : Laid l at (decimal q) m e) (y : Laid m e (58 ∷ []) o g) (z : Laid o g (nodesText f q) p h) where
+  line : (r : List ℕ) (k : ℕ) → Laid o g (orIdle (nodesText f q) ++ newline) r k → Laid l at (stepLine f q) r k
+  unfolding stepLine
+  line r k w = both l at (decimal q) _ m r e k x (both m e (58 ∷ []) _ o r g k y w)
+
+  pub idle-line : (r : List ℕ) (k : ℕ) → h ≡ g → Laid p h (32 ∷ 45 ∷ 10 ∷ []) r k → Laid l at (stepLine f q) r k
+  idle-line r k n w =
+      line r k (rw (idle-end (nodesText f q) (omega (arith, z .ends))) at (both o g (nodesText f q) (32 ∷ 45 ∷ 10 ∷ []) p r h k z w))
+
+  pub some-line : (r : List ℕ) (k : ℕ) → h ≢ g → Laid p h (10 ∷ []) r k → Laid l at (stepLine f q) r k
+  some-line r k n w =
+      line r k (rw (some-end (nodesText f q) (λ t. n (omega (arith, z .ends)))) at (both o g (nodesText f q) (10 ∷ []) p r h k z w))

@@ -7,8 +7,10 @@ ghost use lib.Dec.{eqb};
 ghost use lib.ListN.{length};
 ghost use Rattle.lists.specs.Pick.{pick};
 ghost use Rattle.writer.specs.Laid.{Laid};
-ghost use Rattle.listing.specs.Text.{decimal};
-ghost use Rattle.listing.specs.Lines.{retimingText, nodesText, stepLine, depthOf};
+ghost use Rattle.writer.specs.Layout.{rows};
+ghost use Rattle.listing.specs.Text.{decimal, newline, shortestWord, openWord, refusedWord};
+ghost use Rattle.listing.specs.Lines.{retimingText, nodesText, stepLine, depthOf, countsLine, formLines};
+ghost use Rattle.listing.specs.Shown.{Shown};
 use answer::Refusal;
 use form::BodyStep;
 use form::Form;
@@ -164,4 +166,62 @@ fn depth_of(form: Form) -> u8
         i += 1;
     }
     depth
+}
+
+// The lines of the body's steps.
+fn put_lines(out: &mut [u8], at: usize, form: Form) -> usize
+    requires { ⌜ (at ≤ 1000) × (form .nodes ≤ 64) × (form .length ≤ 512) ⌝ }
+    ensures { λ r. ⌜ (r ≤ at + 264704) × Laid (now (out .entry)) at (rows (λ i. stepLine form (i + 1)) (form .length)) (now (out .exit)) r ⌝ }
+{
+    let length = form.length;
+    let mut next = at;
+    let mut i: u16 = 0;
+    while i < length {
+        next = put_line(out, next, i + 1, form);
+        i += 1;
+    }
+    next
+}
+
+// Whether the length is the floor, and the line's end.
+fn put_verdict(out: &mut [u8], at: usize, length: u16, floor: u32) -> usize
+    requires { ⌜ at ≤ 1000 ⌝ }
+    ensures { λ r. ⌜ (r ≤ at + 10) × Laid (now (out .entry)) at (pick (eqb length floor) shortestWord openWord ++ newline) (now (out .exit)) r ⌝ }
+{
+    if length as u32 == floor {
+        return put_word(out, at, b" shortest\n");
+    }
+    put_word(out, at, b" open\n")
+}
+
+// The counts, the depth, the floor and the verdict.
+fn put_counts(out: &mut [u8], at: usize, form: Form, floor: u32) -> usize
+    requires { ⌜ (at ≤ 100) × Shown form floor ⌝ }
+    ensures { λ r. ⌜ (r ≤ at + 60) × Laid (now (out .entry)) at (countsLine form) (now (out .exit)) r ⌝ }
+{
+    let edges = put_field(out, at, b"nodes ", form.nodes as u32);
+    let length = put_field(out, edges, b" edges ", form.edges as u32);
+    let depth = put_field(out, length, b" length ", form.length as u32);
+    let lowest = put_field(out, depth, b" depth ", depth_of(form) as u32);
+    let verdict = put_field(out, lowest, b" floor ", floor);
+    put_verdict(out, verdict, form.length, floor)
+}
+
+// The whole listing of a form.
+fn put_form(out: &mut [u8], form: Form, floor: u32) -> usize
+    requires { ⌜ Shown form floor ⌝ }
+    ensures { λ r. ⌜ (r ≤ 1000000) × Laid (now (out .entry)) 0 (formLines form) (now (out .exit)) r ⌝ }
+{
+    let counts = put_word(out, 0, b"RSK 1\n");
+    let lines = put_counts(out, counts, form, floor);
+    put_lines(out, lines, form)
+}
+
+// The whole listing of what is refused.
+fn put_refused(out: &mut [u8], number: u32) -> usize
+    requires { ⌜ number < 1000 ⌝ }
+    ensures { λ r. ⌜ (r ≤ 1000000) × Laid (now (out .entry)) 0 (refusedWord ++ (decimal number ++ newline)) (now (out .exit)) r ⌝ }
+{
+    let end = put_field(out, 0, b"refused ", number);
+    put_byte(out, end, b'\n')
 }

@@ -1,3 +1,7 @@
+use mathlib.Core.Path.{_≡_}
+use Prim.Native.Nat.{_≤_, _-_}
+use native.Mathlib.Omega.{arith}
+use Rattle.listing.proofs.Laws.{tests, depthTo, depth-none, depth-more, depth-whole}
 use Rattle.listing.proofs.depth_of.Statement.{statement}
 use Rattle.listing.proofs.depth_of.Tie as tie
 use Rattle.listing.proofs.depth_of.Reads as reads
@@ -5,42 +9,34 @@ use Rattle.listing.proofs.depth_of.Lts as lts
 use Rattle.listing.proofs.larger.Reads as larger-reads
 
 abbrev Inv-loop : tie.InvT-loop
-Inv-loop form nodes depth₀ i₀ depth i = ?
+Inv-loop form nodes depth₀ i₀ depth i = (i ≤ nodes) × (depth ≡ depthTo form i)
 
 abbrev μ-loop : tie.MeasureT-loop
-μ-loop form nodes depth₀ i₀ depth i = ?
+μ-loop form nodes depth₀ i₀ depth i = nodes - i
 
--- src/lib.rt:159:17
 cast-nodes : tie.Need-cast-nodes Inv-loop μ-loop
-cast-nodes c = ?
+cast-nodes c = search tests
 
--- src/lib.rt:162:5
 loop-holds : tie.Need-loop-holds Inv-loop μ-loop
-loop-holds c = ?
+loop-holds c = (search tests, depth-none _)
 
--- src/lib.rt:163:31
 element-copy-out-larger : tie.Need-element-copy-out-larger Inv-loop μ-loop
-element-copy-out-larger c = ?
+element-copy-out-larger c = search tests
 
--- src/lib.rt:163:9
 larger-requires : tie.Need-larger-requires Inv-loop μ-loop
-larger-requires c κs = ?
+larger-requires c κs = search tests
 
--- src/lib.rt:164:9
 add-i : tie.Need-add-i Inv-loop μ-loop
-add-i c = ?
+add-i c = search tests
 
--- src/lib.rt:162:5
 loop-less : tie.Need-loop-less Inv-loop μ-loop
-loop-less c = ?
+loop-less c = search tests
 
--- src/lib.rt:162:5
 loop-again : tie.Need-loop-again Inv-loop μ-loop
-loop-again c = ?
+loop-again c = (search tests, depth-more _ _ _ _ (c .before .before .before .loop .inv .1) (c .larger .ensures))
 
--- src/lib.rt:155:1
 returns : tie.Need-returns Inv-loop μ-loop
-returns c = ?
+returns c = depth-whole _ _ _ (c .before .loop .inv .1) (omega arith)
 
 pub depth-of-spec : {M : Type 1} → statement M
 depth-of-spec =

@@ -1,3 +1,10 @@
+use Prim.Native.Nat.{_≤_, _+_, _*_, _-_}
+use native.Mathlib.Omega.{arith}
+use Rattle.writer.specs.Layout.{rows}
+use Rattle.writer.specs.Laid.{Laid}
+use Rattle.writer.proofs.Laws.{nothing, same-long}
+use Rattle.listing.specs.Lines.{nodeText}
+use Rattle.listing.proofs.Laws.{tests, node-more, nodes-whole}
 use Rattle.listing.proofs.put_nodes.Statement.{statement}
 use Rattle.listing.proofs.put_nodes.Tie as tie
 use Rattle.listing.proofs.put_nodes.Reads as reads
@@ -5,58 +12,47 @@ use Rattle.listing.proofs.put_nodes.Lts as lts
 use Rattle.listing.proofs.put_node.Reads as put-node-reads
 
 abbrev Inv-loop : tie.InvT-loop
-Inv-loop out₀ at step form nodes next₀ i₀ out next i = ?
+Inv-loop out₀ at step form nodes next₀ i₀ out next i = (i ≤ nodes) × (next ≤ at + 8 * i) × Laid out₀ at (rows (nodeText form step) i) out next
 
 abbrev μ-loop : tie.MeasureT-loop
-μ-loop out₀ at step form nodes next₀ i₀ out next i = ?
+μ-loop out₀ at step form nodes next₀ i₀ out next i = nodes - i
 
--- src/lib.rt:119:17
 cast-nodes : tie.Need-cast-nodes Inv-loop μ-loop
-cast-nodes c = ?
+cast-nodes c = search tests
 
--- src/lib.rt:122:5
 loop-holds : tie.Need-loop-holds Inv-loop μ-loop
-loop-holds c = ?
+unfolding rows
+loop-holds c = (search tests, search tests, nothing _ _)
 
--- src/lib.rt:123:21
 mul-start : tie.Need-mul-start Inv-loop μ-loop
-mul-start c = ?
+mul-start c = search tests
 
--- src/lib.rt:123:21
 element-copy-out-start : tie.Need-element-copy-out-start Inv-loop μ-loop
-element-copy-out-start c = ?
+element-copy-out-start c = search tests
 
--- src/lib.rt:124:42
 cast-put-node : tie.Need-cast-put-node Inv-loop μ-loop
-cast-put-node c = ?
+cast-put-node c = search tests
 
--- src/lib.rt:124:59
 element-copy-out-put-node : tie.Need-element-copy-out-put-node Inv-loop μ-loop
-element-copy-out-put-node c = ?
+element-copy-out-put-node c = search tests
 
--- src/lib.rt:124:9
 put-node-requires : tie.Need-put-node-requires Inv-loop μ-loop
-put-node-requires c κs = ?
+put-node-requires c κs = search tests
 
--- src/lib.rt:125:9
 add-i : tie.Need-add-i Inv-loop μ-loop
-add-i c = ?
+add-i c = search tests
 
--- src/lib.rt:122:5
 loop-less : tie.Need-loop-less Inv-loop μ-loop
-loop-less c = ?
+loop-less c = search tests
 
--- src/lib.rt:122:5
 loop-again : tie.Need-loop-again Inv-loop μ-loop
-loop-again c = ?
+loop-again c = (search tests, search tests, node-more _ _ _ _ _ _ _ _ _ (c .before .before .before .before .before .before .before .loop .inv .2) (c .before .before .put-node .ensures .1))
 
--- src/lib.rt:115:1
 same-length : tie.Need-same-length Inv-loop μ-loop
-same-length c = ?
+same-length c = same-long _ _ _ _ _ (c .before .loop .inv .2)
 
--- src/lib.rt:115:1
 returns : tie.Need-returns Inv-loop μ-loop
-returns c = ?
+returns c = (search tests, nodes-whole _ _ _ _ _ _ _ (c .before .loop .inv .2) (omega arith))
 
 pub put-nodes-spec : {M : Type 1} → statement M
 put-nodes-spec =
