@@ -1,7 +1,7 @@
 -- Runs of text laid one after the other: bytes, numbers, nodes, lines.
 -- Assumes nothing.
 use mathlib.Core.Path.{_≡_, refl, sym, _∙_}
-use mathlib.Core.List.{List, [], _∷_, _++_, map}
+use mathlib.Core.List.{List, [], _∷_, _++_, map, append-assoc}
 use mathlib.Core.Logic.{_≢_}
 use Prim.Native.Nat.{ℕ, _+_, _/_, _%_, _≤_, _<_, max}
 use native.Mathlib.Numerals.{add-one}
@@ -17,11 +17,14 @@ use Rattle.lists.specs.Fold.{top}
 use Rattle.lists.specs.Sums.{top-none, top-last}
 use Rattle.form.specs.declared.Form.{Form}
 use Rattle.form.specs.Places.{startOf, retimingOf}
+use Rattle.legal.specs.Loop.{loopOf}
+use Rattle.floor.specs.Parts.{floorLength}
 use Rattle.writer.specs.Layout.{rows}
 use Rattle.writer.specs.Laid.{Laid}
 use Rattle.writer.proofs.Laws.{nothing, both, row-more}
-use Rattle.listing.specs.Text.{decimal, newline}
-use Rattle.listing.specs.Lines.{depthOf, retimingText, nodeText, nodesText, orIdle, stepLine}
+use Rattle.listing.specs.Text.{decimal, newline, depthWord, floorWord, shortestWord, openWord}
+use Rattle.listing.specs.Lines.{depthOf, retimingText, nodeText, nodesText, orIdle, stepLine, verdict, countsLine}
+use Rattle.listing.specs.Shown.{Shown, sizesText}
 
 pub ruleset tests = (needs, le-ltb, lt-ltb, eq-eqb, ne-eqb)
 
@@ -39,6 +42,10 @@ module _ (l : List ℕ) (at : ℕ) (s : List ℕ) where
   -- its last byte is put
   pub word-whole : (m : List ℕ) (i e : ℕ) → length s ≤ i → Laid l at (take i s) m e → Laid l at s m e
   word-whole m i e h x = rw (take-all i s h) at x
+
+-- rows up to the last
+pub rows-whole : (l : List ℕ) (at : ℕ) (row : ℕ → List ℕ) (m : List ℕ) (n i e : ℕ) → Laid l at (rows row i) m e → i ≡ n → Laid l at (rows row n) m e
+rows-whole l at row m n i e x h = rw h at x
 
 -- ---- numbers
 
@@ -135,3 +142,25 @@ module _ (f : Form) (l : List ℕ) (at q : ℕ) (m o p : List ℕ) (e g h : ℕ)
   pub some-line : (r : List ℕ) (k : ℕ) → h ≢ g → Laid p h (10 ∷ []) r k → Laid l at (stepLine f q) r k
   some-line r k n w =
       line r k (rw (some-end (nodesText f q) (λ t. n (omega (arith, z .ends)))) at (both o g (nodesText f q) (10 ∷ []) p r h k z w))
+
+-- ---- the other lines
+
+module _ (l : List ℕ) (at length floor : ℕ) (m : List ℕ) (e : ℕ) where
+  pub shortest-put : length ≡ floor → Laid l at (shortestWord ++ newline) m e → Laid l at (pick (eqb length floor) shortestWord openWord ++ newline) m e
+  shortest-put h x = rw (pick-true _ _ _ (eq-eqb length floor h)) x
+
+  pub open-put : length ≢ floor → Laid l at (openWord ++ newline) m e → Laid l at (pick (eqb length floor) shortestWord openWord ++ newline) m e
+  open-put h x = rw (pick-false _ _ _ (ne-eqb length floor h)) x
+
+counts-text : (f : Form)
+    → sizesText f ++ ((depthWord ++ decimal (depthOf f)) ++ ((floorWord ++ decimal (floorLength (loopOf f))) ++ (verdict f ++ newline))) ≡ countsLine f
+unfolding sizesText countsLine
+counts-text f = simp append-assoc
+
+pub counts-put : (f : Form) (l : List ℕ) (at : ℕ) (m o p r : List ℕ) (e g h k floor depth : ℕ) → Shown f floor → depth ≡ depthOf f → Laid l at (sizesText f) m e
+    → Laid m e (depthWord ++ decimal depth) o g → Laid o g (floorWord ++ decimal floor) p h
+    → Laid p h (pick (eqb (f .length) floor) shortestWord openWord ++ newline) r k → Laid l at (countsLine f) r k
+unfolding verdict
+counts-put f l at m o p r e g h k floor depth s d x y z w =
+    rw (counts-text f) at
+    (both l at (sizesText f) _ m r e k x (rw (d, s .is) at (both m e (depthWord ++ decimal depth) _ o r g k y (both o g (floorWord ++ decimal floor) _ p r h k z w))))

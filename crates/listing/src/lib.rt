@@ -10,7 +10,7 @@ ghost use Rattle.writer.specs.Laid.{Laid};
 ghost use Rattle.writer.specs.Layout.{rows};
 ghost use Rattle.listing.specs.Text.{decimal, newline, shortestWord, openWord, refusedWord};
 ghost use Rattle.listing.specs.Lines.{retimingText, nodesText, stepLine, depthOf, countsLine, formLines};
-ghost use Rattle.listing.specs.Shown.{Shown};
+ghost use Rattle.listing.specs.Shown.{Shown, sizesText};
 use answer::Refusal;
 use form::BodyStep;
 use form::Form;
@@ -194,15 +194,24 @@ fn put_verdict(out: &mut [u8], at: usize, length: u16, floor: u32) -> usize
     put_word(out, at, b" open\n")
 }
 
-// The counts, the depth, the floor and the verdict.
-fn put_counts(out: &mut [u8], at: usize, form: Form, floor: u32) -> usize
-    requires { ⌜ (at ≤ 100) × Shown form floor ⌝ }
-    ensures { λ r. ⌜ (r ≤ at + 60) × Laid (now (out .entry)) at (countsLine form) (now (out .exit)) r ⌝ }
+// The counts of nodes, edges and steps.
+fn put_sizes(out: &mut [u8], at: usize, form: Form) -> usize
+    requires { ⌜ (at ≤ 100) × (form .nodes ≤ 64) × (form .edges ≤ 256) × (form .length ≤ 512) ⌝ }
+    ensures { λ r. ⌜ (r ≤ at + 30) × Laid (now (out .entry)) at (sizesText form) (now (out .exit)) r ⌝ }
 {
     let edges = put_field(out, at, b"nodes ", form.nodes as u32);
     let length = put_field(out, edges, b" edges ", form.edges as u32);
-    let depth = put_field(out, length, b" length ", form.length as u32);
-    let lowest = put_field(out, depth, b" depth ", depth_of(form) as u32);
+    put_field(out, length, b" length ", form.length as u32)
+}
+
+// The counts, the depth, the floor and the verdict.
+fn put_counts(out: &mut [u8], at: usize, form: Form, floor: u32) -> usize
+    requires { ⌜ (at ≤ 50) × Shown form floor ⌝ }
+    ensures { λ r. ⌜ (r ≤ at + 60) × Laid (now (out .entry)) at (countsLine form) (now (out .exit)) r ⌝ }
+{
+    let depth = depth_of(form);
+    let past = put_sizes(out, at, form);
+    let lowest = put_field(out, past, b" depth ", depth as u32);
     let verdict = put_field(out, lowest, b" floor ", floor);
     put_verdict(out, verdict, form.length, floor)
 }

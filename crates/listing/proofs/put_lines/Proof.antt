@@ -1,3 +1,11 @@
+use mathlib.Core.Path.{_≡_}
+use Prim.Native.Nat.{_≤_, _+_, _*_, _-_}
+use native.Mathlib.Omega.{arith}
+use Rattle.writer.specs.Layout.{rows}
+use Rattle.writer.specs.Laid.{Laid}
+use Rattle.writer.proofs.Laws.{nothing, row-more, same-long}
+use Rattle.listing.specs.Lines.{stepLine}
+use Rattle.listing.proofs.Laws.{tests, rows-whole}
 use Rattle.listing.proofs.put_lines.Statement.{statement}
 use Rattle.listing.proofs.put_lines.Tie as tie
 use Rattle.listing.proofs.put_lines.Reads as reads
@@ -5,42 +13,35 @@ use Rattle.listing.proofs.put_lines.Lts as lts
 use Rattle.listing.proofs.put_line.Reads as put-line-reads
 
 abbrev Inv-loop : tie.InvT-loop
-Inv-loop out₀ at form length next₀ i₀ out next i = ?
+Inv-loop out₀ at form length next₀ i₀ out next i = (i ≤ length) × (next ≤ at + 517 * i) × Laid out₀ at (rows (λ k. stepLine form (k + 1)) i) out next
 
 abbrev μ-loop : tie.MeasureT-loop
-μ-loop out₀ at form length next₀ i₀ out next i = ?
+μ-loop out₀ at form length next₀ i₀ out next i = length - i
 
--- src/lib.rt:179:5
 loop-holds : tie.Need-loop-holds Inv-loop μ-loop
-loop-holds c = ?
+unfolding rows
+loop-holds c = (search tests, search tests, nothing _ _)
 
--- src/lib.rt:180:36
 add-put-line : tie.Need-add-put-line Inv-loop μ-loop
-add-put-line c = ?
+add-put-line c = search tests
 
--- src/lib.rt:180:9
 put-line-requires : tie.Need-put-line-requires Inv-loop μ-loop
-put-line-requires c κs = ?
+put-line-requires c κs = search tests
 
--- src/lib.rt:181:9
 add-i : tie.Need-add-i Inv-loop μ-loop
-add-i c = ?
+add-i c = search tests
 
--- src/lib.rt:179:5
 loop-less : tie.Need-loop-less Inv-loop μ-loop
-loop-less c = ?
+loop-less c = search tests
 
--- src/lib.rt:179:5
 loop-again : tie.Need-loop-again Inv-loop μ-loop
-loop-again c = ?
+loop-again c = (search tests, search tests, row-more _ _ _ _ _ _ _ _ (c .before .before .before .before .before .loop .inv .2) (c .before .before .put-line .ensures .1))
 
--- src/lib.rt:172:1
 same-length : tie.Need-same-length Inv-loop μ-loop
-same-length c = ?
+same-length c = same-long _ _ _ _ _ (c .before .loop .inv .2)
 
--- src/lib.rt:172:1
 returns : tie.Need-returns Inv-loop μ-loop
-returns c = ?
+returns c = (search tests, rows-whole _ _ _ _ _ _ _ (c .before .loop .inv .2) (omega arith))
 
 pub put-lines-spec : {M : Type 1} → statement M
 put-lines-spec =
