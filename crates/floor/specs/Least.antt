@@ -56,6 +56,14 @@ module _ (g : Loop) where
         solved-settles (paces g m) (s .joined) (s .some) (s .few) (settledAt (paces g l))
         (λ e b. omega (arith, settled-solves (paces g l) q e b, mul-le-mul-right (g .delay e) h))
 
+    -- and what is not enough was not before
+    pub short-less : (l m : ℕ) → l ≤ m → enough m ≡ false → enough l ≡ false
+    short-less l m h q = go (enough l) refl
+      where
+        go : (b : Bool) → enough l ≡ b → enough l ≡ false
+        go true t = both-ways (enough-more l m h t) q
+        go false t = t
+
     -- a cycle has at most 64 edges of latency at most 8
     cycle-latency : (es : List ℕ) → Cycle (g .graph) es → latencies g es ≤ 512
     unfolding paces costs

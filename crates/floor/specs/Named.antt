@@ -67,7 +67,7 @@ module _ (g : Loop) where
         | no l ↦ absurd (omega (arith, units-under (λ d m. before d (omega arith))))
       ]
 
-  cycle-named : latencyPart g ≢ floorLength g → unitsParts g ≢ floorLength g → Attains g part.Cycle
+  pub cycle-named : latencyPart g ≢ floorLength g → unitsParts g ≢ floorLength g → Attains g part.Cycle
   cycle-named n m = cycle n (λ d l e. m (omega (arith, floor-over .1, units-each d l))) (cycle-last n m)
 
   -- what is named is so
@@ -91,6 +91,9 @@ module _ (g : Loop) where
 
   told-cycle : Attains g part.Cycle → (latencyPart g ≢ floorLength g) × (cyclePart g ≡ floorLength g)
   told-cycle (cycle n m e) = (n, e)
+
+  pub cycle-attained : Attains g part.Cycle → cyclePart g ≡ floorLength g
+  cycle-attained a = told-cycle a .1
 
   module _ (s : Sound g) (q : partOf g ≡ part.Cycle) where
     -- with (c) there is a length below the floor

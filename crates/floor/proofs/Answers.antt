@@ -1,0 +1,185 @@
+-- The ways that the floor answers: by each part, with a knot, of a record.
+-- Assumes nothing.
+use mathlib.Core.Path.{_≡_, refl, sym, ap, _∙_}
+use mathlib.Core.Bool.{true, false}
+use mathlib.Core.Logic.{_≢_}
+use mathlib.Core.List.{List, map}
+use Prim.Native.Nat.{ℕ, _-_, _≤_, _<_, max}
+use native.Mathlib.Omega.{arith}
+use lib.ListN.{getD}
+use Rattle.lists.specs.Pick.{pick, pick-true, pick-false}
+use Rattle.lists.specs.Span.{span}
+use Rattle.lists.specs.Fold.{top}
+use Rattle.lists.specs.Place.{zeros-at}
+use Rattle.lists.specs.Sums.{top-each, top-under}
+use Rattle.answer.specs.Refused.{numberOf, fine}
+use Rattle.answer.specs.Outcome.{noCycle, edgesOf, Filled}
+use Rattle.answer.specs.declared.Cycle.{Cycle}
+use Rattle.answer.specs.declared.Refusal.the-variants as refusal
+use Rattle.form.specs.declared.Form.{Form}
+use Rattle.form.specs.Ranges.{WellFormed}
+use Rattle.field.specs.Number.{Bytes}
+use Rattle.reader.specs.declared.Record.{Record}
+use Rattle.reader.specs.Reading.{readForm}
+use Rattle.record.specs.Read.{read-well-formed}
+use Rattle.system.specs.System.{Losing}
+use Rattle.legal.specs.Loop.{Loop, graphOf, loopOf, latency as latencyOn}
+use Rattle.legal.specs.Systems.{knotted, paces}
+use Rattle.legal.specs.Shape.{sound-form}
+use Rattle.legal.specs.Knots.{unknotted-free}
+use Rattle.knots.specs.Found.{KnotFound}
+use Rattle.judge.specs.Early.{read-early}
+use Rattle.floor.specs.declared.Part.{Part}
+use Rattle.floor.specs.declared.Part.the-variants as part
+use Rattle.floor.specs.declared.Floored.{Floored}
+use Rattle.floor.specs.Parts.{latencyPart, unitsParts, cyclePart, floorLength}
+use Rattle.floor.specs.Least.{enough, cycle-one, cycle-512}
+use Rattle.floor.specs.Tables.{Worked, mostOf, Busy}
+use Rattle.floor.specs.Floor.{partNumber, partOf, floorRefusal, FloorCycle, FormFloored, floorRecord, RecordFloored}
+use Rattle.floor.specs.Named.{Attains, latency, units, cycle-named, cycle-attained, named-is, floor-short}
+
+-- ---- what is worked out of a loop without a knot
+
+top-le : (f g : ℕ → ℕ) (n : ℕ) → ((v : ℕ) → v < n → f v ≡ g v) → top (map f (span 0 n)) ≤ top (map g (span 0 n))
+top-le f g n h = top-under f (top (map g (span 0 n))) n (λ v l. omega (arith, h v l, top-each g n v l))
+
+-- the table's largest latency is the loop's
+pub latency-known : (f : Form) (ks ts : List ℕ) → Worked f (f .nodes) ks ts → mostOf ts (f .nodes) ≡ latencyPart (loopOf f)
+unfolding mostOf latencyPart loopOf graphOf
+latency-known f ks ts t =
+    omega (
+      arith,
+      top-le (λ v. getD ts v 0) (latencyOn (loopOf f)) (f .nodes) (t .latency),
+      top-le (latencyOn (loopOf f)) (λ v. getD ts v 0) (f .nodes) (λ v l. sym (t .latency v l)),
+    )
+
+pub record Known (f : Form) (a b class floor : ℕ) : Type 0 where
+  pub latency-is : a ≡ latencyPart (loopOf f)
+  pub busy : Busy (loopOf f) (f .classes) b class
+  pub floor-is : floor ≡ floorLength (loopOf f)
+  pub most : b ≤ floor
+  pub one : 1 ≤ floor
+
+pub known : (f : Form) (a b class c inner floor : ℕ) → a ≡ latencyPart (loopOf f) → Busy (loopOf f) (f .classes) b class → c ≡ cyclePart (loopOf f)
+    → inner ≡ max b c → floor ≡ max a inner → Known f a b class floor
+unfolding floorLength unitsParts loopOf
+known f a b class c inner floor is-a busy is-c is-inner is-floor = record {
+  latency-is = is-a;
+  busy = busy;
+  floor-is = omega (arith, busy .most);
+  most = omega arith;
+  one = omega (arith, cycle-one (loopOf f));
+}
+
+module _ (f : Form) (a b class floor : ℕ) (k : Known f a b class floor) where
+  pub attains-latency : a ≡ floor → Attains (loopOf f) part.Latency
+  attains-latency e = latency (omega (arith, k .latency-is, k .floor-is))
+
+  pub attains-units : a ≢ floor → b ≡ floor → Attains (loopOf f) (part.Units class)
+  unfolding loopOf
+  attains-units n e =
+      let here = k .busy .here (omega (arith, k .one)) in
+      units class (λ z. n (omega (arith, k .latency-is, k .floor-is))) (here .0) (omega (arith, here .1, k .floor-is))
+      (λ d l z. omega (arith, k .busy .before d l, k .floor-is))
+
+  pub attains-cycle : a ≢ floor → b ≢ floor → Attains (loopOf f) part.Cycle
+  unfolding unitsParts loopOf
+  attains-cycle n m =
+      cycle-named (loopOf f) (λ z. n (omega (arith, k .latency-is, k .floor-is))) (λ z. m (omega (arith, k .busy .most, k .floor-is)))
+
+-- ---- a form
+
+none-fine : fine refusal.None ≡ true
+unfolding fine
+none-fine = refl
+
+-- an answer that no cycle stands beside
+alone-cycle : (g : Loop) (r : Floored) → numberOf (r .refusal) ≢ 12 → partNumber (r .part) ≢ 3 → r .cycle ≡ noCycle → FloorCycle g r
+alone-cycle g r n m e = record {
+  knot = λ k. absurd (n (ap numberOf k));
+  breaks = λ k. absurd (m (ap partNumber k));
+  none = λ _ _. e;
+  filled = λ i h. rw e (zeros-at 64 i);
+}
+
+module _ (f : Form) (free : knotted (loopOf f) ≡ false) where
+  floored : (r : Floored) (x : Part) → Attains (loopOf f) x → r .refusal ≡ refusal.None → r .floor ≡ floorLength (loopOf f) → r .part ≡ x → FloorCycle (loopOf f) r
+      → FormFloored f r
+  unfolding floorRefusal
+  floored r x a none is named cycle =
+      let fin : fine (r .refusal) ≡ true = ap fine none ∙ none-fine in
+      record {
+        refusal = none ∙ sym (pick-false (knotted (loopOf f)) refusal.Knot refusal.None free);
+        floor = is ∙ sym (pick-true (fine (r .refusal)) (floorLength (loopOf f)) 0 fin);
+        part = named ∙ sym (named-is (loopOf f) x a) ∙ sym (pick-true (fine (r .refusal)) (partOf (loopOf f)) part.None fin);
+        cycle = cycle;
+      }
+
+  -- with (a) and (b)
+  pub floored-alone : (r : Floored) (x : Part) (floor : ℕ) → partNumber x ≢ 3 → Attains (loopOf f) x → floor ≡ floorLength (loopOf f)
+      → (r .refusal ≡ refusal.None) × (r .floor ≡ floor) × (r .part ≡ x) × (r .cycle ≡ noCycle) → FormFloored f r
+  floored-alone r x floor n a is e =
+      floored r x a (e .0) (e .1 ∙ is) (e .2)
+      (alone-cycle (loopOf f) r (λ k. omega (arith, k, ap numberOf (e .0))) (λ k. n (sym (ap partNumber (e .2)) ∙ k)) (e .3))
+
+  -- with (c)
+  pub floored-cycle : (floor : ℕ) (c : Cycle) → Attains (loopOf f) part.Cycle → floor ≡ floorLength (loopOf f) → Losing (paces (loopOf f) (floor - 1)) (edgesOf c) × Filled c
+      → FormFloored f (record { refusal = refusal.None; floor = floor; part = part.Cycle; cycle = c })
+  floored-cycle floor c a is breaks =
+      floored _ part.Cycle a refl is refl (record {
+        knot = λ k. let n : _≡_ {A = ℕ} 0 12 = ap numberOf k in absurd (omega arith);
+        breaks = λ _. rw (← is) (breaks .0);
+        none = λ _ n. absurd (n refl);
+        filled = breaks .1;
+      })
+
+  -- what a cycle that breaks the length below the floor is looked for with
+  pub below-short : WellFormed f → (floor : ℕ) → Attains (loopOf f) part.Cycle → floor ≡ floorLength (loopOf f)
+      → (floor - 1 ≤ 512) × (enough (loopOf f) (floor - 1) ≡ false)
+  below-short w floor a is = (
+    omega (arith, cycle-attained (loopOf f) a, cycle-512 (loopOf f) (sound-form f w) (unknotted-free (loopOf f) free)),
+    rw is (floor-short (loopOf f) (sound-form f w) (named-is (loopOf f) part.Cycle a)),
+  )
+
+-- with a knot
+pub floored-knot : (f : Form) (c : Cycle) → KnotFound (loopOf f) c → 0 < c .count → FormFloored f (record { refusal = refusal.Knot; floor = 0; part = part.None; cycle = c })
+unfolding floorRefusal fine pick
+floored-knot f c found l = record {
+  refusal = sym (pick-true (knotted (loopOf f)) refusal.Knot refusal.None (found .tied l));
+  floor = refl;
+  part = refl;
+  cycle = record {
+    knot = λ _. found .knot l;
+    breaks = λ k. let n : _≡_ {A = ℕ} 0 3 = ap partNumber k in absurd (omega arith);
+    none = λ n _. absurd (n refl);
+    filled = found .filled;
+  };
+}
+
+-- ---- a record
+
+module _ (s : List ℕ) (r : Record) (back : r ≡ readForm s) where
+  pub read-good : Bytes s → fine (r .refusal) ≡ true → WellFormed (r .form)
+  read-good b f = rw back (read-well-formed s b (rw back at f))
+
+  module _ (j : Floored) where
+    pub record-refused : fine (r .refusal) ≡ false → (j .refusal ≡ r .refusal) × (j .floor ≡ 0) × (j .part ≡ part.None) × (j .cycle ≡ noCycle) → RecordFloored s j
+    unfolding floorRecord
+    record-refused f e =
+        let n : numberOf (j .refusal) ≤ 10 = rw (e .0, back) (read-early s) in
+        let unfit : fine (j .refusal) ≡ false = ap fine (e .0) ∙ f in
+        record {
+          refusal = e .0 ∙ sym (rw (← back) (pick-false (fine (r .refusal)) (floorRefusal (r .form)) (r .refusal) f));
+          floor = e .1 ∙ sym (pick-false (fine (j .refusal)) (floorLength (loopOf (readForm s .form))) 0 unfit);
+          part = e .2 ∙ sym (pick-false (fine (j .refusal)) (partOf (loopOf (readForm s .form))) part.None unfit);
+          cycle = alone-cycle _ j (λ k. omega arith) (λ k. omega (arith, ap partNumber (e .2))) (e .3);
+        }
+
+    pub record-floored : fine (r .refusal) ≡ true → FormFloored (r .form) j → RecordFloored s j
+    unfolding floorRecord
+    record-floored f t = record {
+      refusal = t .refusal ∙ sym (rw (← back) (pick-true (fine (r .refusal)) (floorRefusal (r .form)) (r .refusal) f));
+      floor = rw (← back) (t .floor);
+      part = rw (← back) (t .part);
+      cycle = rw (← back) (t .cycle);
+    }

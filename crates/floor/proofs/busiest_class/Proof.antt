@@ -1,0 +1,79 @@
+-- `floor::busiest_class` meets its contract: the busiest of the classes passed is kept.
+-- Assumes nothing.
+use mathlib.Core.Path.{_≡_, subst}
+use mathlib.Core.Logic.{⊎-elim}
+use Prim.Native.Nat.{ℕ, _≤_, _-_}
+use native.Mathlib.Omega.{arith}
+use Rattle.legal.specs.Loop.{loopOf}
+use Rattle.floor.specs.Tables.{Busy}
+use Rattle.floor.proofs.Laws.{busy-none, busy-here, busy-past, part-is}
+use borrow.Author.Needs.{needs}
+use Rattle.floor.proofs.busiest_class.Statement.{statement}
+use Rattle.floor.proofs.busiest_class.Tie as tie
+
+abbrev Inv-loop : tie.InvT-loop
+Inv-loop kind form part₀ number₀ c₀ c-end part number c = (c ≤ form .classes) × Busy (loopOf form) c part number
+
+abbrev μ-loop : tie.MeasureT-loop
+μ-loop kind form part₀ number₀ c₀ c-end part number c = form .classes - c
+
+loop-holds : tie.Need-loop-holds Inv-loop μ-loop
+loop-holds c = (search needs, busy-none _)
+
+cast-class : tie.Need-cast-class Inv-loop μ-loop
+cast-class c = search needs
+
+mul-class : tie.Need-mul-class Inv-loop μ-loop
+mul-class c = search needs
+
+element-copy-out-class : tie.Need-element-copy-out-class Inv-loop μ-loop
+element-copy-out-class c = search needs
+
+nodes-on-requires : tie.Need-nodes-on-requires Inv-loop μ-loop
+nodes-on-requires c κs = search needs
+
+units-part-requires : tie.Need-units-part-requires Inv-loop μ-loop
+units-part-requires c κs =
+    let l = c .before .before .before in
+    (l .before .pre .0 .class (l .loop .c) (omega arith), c .nodes-on .ensures .1)
+
+add-c : tie.Need-add-c Inv-loop μ-loop
+add-c c = search needs
+
+loop-less : tie.Need-loop-less Inv-loop μ-loop
+loop-less c = search needs
+
+loop-again : tie.Need-loop-again Inv-loop μ-loop
+loop-again c =
+    let l = c .before .before .before .before .before in
+    let a = l .before in
+    let is = part-is (a .args .t1) (a .args .kind .now) (a .pre .1) (l .loop .c) _ _ (c .before .before .nodes-on .ensures .0) (c .before .units-part .ensures) in (
+      search needs,
+      ⊎-elim
+          (λ w. rw (w .1, w .2) (busy-here (a .args .t1) (l .loop .c) _ _ _ is (l .loop .inv .1) (w .0 .taken)))
+          (λ w. rw (w .1, w .2) (busy-past (a .args .t1) (l .loop .c) _ _ _ is (l .loop .inv .1) (w .0 .left)))
+          (c .if1 .came),
+    )
+
+returns : tie.Need-returns Inv-loop μ-loop
+returns c =
+    let l = c .before in
+    let e : l .loop .c ≡ l .before .args .t1 .classes = omega arith in
+    subst (λ (n : ℕ). Busy (loopOf (l .before .args .t1)) n (l .loop .part) (l .loop .number)) e (l .loop .inv .1)
+
+pub busiest-class-spec : {M : Type 1} → statement M
+busiest-class-spec =
+    tie.close
+    (tie.spec
+    Inv-loop
+    μ-loop
+    loop-holds
+    cast-class
+    mul-class
+    element-copy-out-class
+    nodes-on-requires
+    units-part-requires
+    add-c
+    loop-less
+    loop-again
+    returns)

@@ -1,0 +1,38 @@
+-- `floor::floor` meets its contract: the reader's refusal, else the form's floor.
+-- Assumes nothing.
+use mathlib.Core.Path.{sym, _∙_}
+use native.Mathlib.Omega.{arith}
+use borrow.Author.Tests.{not-true, not-false}
+use Rattle.floor.proofs.Answers.{read-good, record-refused, record-floored}
+use borrow.Author.Needs.{needs}
+use Rattle.floor.proofs.floor.Statement.{statement}
+use Rattle.floor.proofs.floor.Tie as tie
+
+read-requires : tie.Need-read-requires
+read-requires c κs = search needs
+
+is-fine-requires : tie.Need-is-fine-requires
+is-fine-requires c κs = search needs
+
+alone-requires : tie.Need-alone-requires
+alone-requires c κs = search needs
+
+returns : tie.Need-returns
+returns c =
+    let r = c .before .before .before in
+    record-refused _ _ (r .read .ensures) _ (sym (c .before .before .is-fine .ensures) ∙ not-true _ (c .before .if1 .taken)) (c .alone .ensures)
+
+floor-form-requires : tie.Need-floor-form-requires
+floor-form-requires c κs =
+    let r = c .before .before .before in
+    read-good (r .before .before .args .«record» .now) _ (r .read .ensures) (λ i. omega (arith, r .before .shared-slice-known .given i)) (sym (c .before .before .is-fine .ensures) ∙ not-false _ (c .before .if1 .left))
+
+returns-2 : tie.Need-returns-2
+returns-2 c =
+    let r = c .before .before .before .before in
+    record-floored _ _ (r .read .ensures) _ (sym (c .before .before .before .is-fine .ensures) ∙ not-false _ (c .before .before .if1 .left)) (c .floor-form .ensures)
+
+pub floor-spec : {M : Type 1} → statement M
+floor-spec =
+    tie.close
+    (tie.spec read-requires is-fine-requires alone-requires returns floor-form-requires returns-2)

@@ -1,0 +1,64 @@
+-- `floor::nodes_on` meets its contract: the nodes passed are counted.
+-- Assumes nothing.
+use mathlib.Core.Path.{_≡_}
+use mathlib.Core.Logic.{⊎-elim}
+use Prim.Native.Nat.{_≤_, _-_}
+use native.Mathlib.Omega.{arith}
+use Rattle.floor.specs.Tables.{howMany}
+use Rattle.floor.proofs.Laws.{many-none, many-here, many-past}
+use borrow.Author.Needs.{needs}
+use Rattle.floor.proofs.nodes_on.Statement.{statement}
+use Rattle.floor.proofs.nodes_on.Tie as tie
+
+abbrev Inv-loop : tie.InvT-loop
+Inv-loop nodes kind class on₀ v₀ on v = (v ≤ nodes) × (on ≤ v) × (on ≡ howMany kind class v)
+
+abbrev μ-loop : tie.MeasureT-loop
+μ-loop nodes kind class on₀ v₀ on v = nodes - v
+
+loop-holds : tie.Need-loop-holds Inv-loop μ-loop
+loop-holds c = omega (arith, many-none (c .args .kind .now) (c .args .class))
+
+cast-if1 : tie.Need-cast-if1 Inv-loop μ-loop
+cast-if1 c = search needs
+
+element-copy-out-if1 : tie.Need-element-copy-out-if1 Inv-loop μ-loop
+element-copy-out-if1 c = search needs
+
+add-on : tie.Need-add-on Inv-loop μ-loop
+add-on c = search needs
+
+add-v : tie.Need-add-v Inv-loop μ-loop
+add-v c = search needs
+
+loop-less : tie.Need-loop-less Inv-loop μ-loop
+loop-less c = search needs
+
+loop-again : tie.Need-loop-again Inv-loop μ-loop
+loop-again c =
+    let l = c .before .before .before in
+    let a = l .before .args in
+    ⊎-elim
+    (λ w. omega (arith, many-here (a .kind .now) (a .class) (l .loop .v) (w .0 .taken)))
+    (λ w. omega (arith, many-past (a .kind .now) (a .class) (l .loop .v) (w .0 .left)))
+    (c .if1 .came)
+
+returns : tie.Need-returns Inv-loop μ-loop
+returns c =
+    let e : c .before .loop .v ≡ c .before .before .args .nodes = omega arith in
+    (rw (← e) (c .before .loop .inv .2), omega arith)
+
+pub nodes-on-spec : {M : Type 1} → statement M
+nodes-on-spec =
+    tie.close
+    (tie.spec
+    Inv-loop
+    μ-loop
+    loop-holds
+    cast-if1
+    element-copy-out-if1
+    add-on
+    add-v
+    loop-less
+    loop-again
+    returns)
