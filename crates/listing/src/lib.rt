@@ -9,8 +9,8 @@ ghost use Rattle.lists.specs.Pick.{pick};
 ghost use Rattle.writer.specs.Laid.{Laid};
 ghost use Rattle.writer.specs.Layout.{rows};
 ghost use Rattle.listing.specs.Text.{decimal, newline, shortestWord, openWord, refusedWord};
-ghost use Rattle.listing.specs.Lines.{retimingText, nodesText, stepLine, depthOf, countsLine, formLines};
-ghost use Rattle.listing.specs.Shown.{Shown, sizesText};
+ghost use Rattle.listing.specs.Lines.{retimingText, nodesText, stepLine, depthOf, countsLine, formLines, listed, listedBuffer};
+ghost use Rattle.listing.specs.Shown.{Shown, sizesText, Seen, Viewed, viewText};
 use answer::Refusal;
 use form::BodyStep;
 use form::Form;
@@ -19,6 +19,13 @@ use form::Form;
 pub struct Listed {
     pub refusal: Refusal,
     pub size: u32,
+}
+
+// What a listing shows: the judge's number, and where that is 0 the form and its floor.
+struct View {
+    number: u32,
+    form: Form,
+    floor: u32,
 }
 
 // One byte, and the place past it.
@@ -233,4 +240,61 @@ fn put_refused(out: &mut [u8], number: u32) -> usize
 {
     let end = put_field(out, 0, b"refused ", number);
     put_byte(out, end, b'\n')
+}
+
+// The whole listing.
+fn put_view(out: &mut [u8], view: View) -> usize
+    requires { ⌜ Seen view ⌝ }
+    ensures { λ r. ⌜ (r ≤ 1000000) × Laid (now (out .entry)) 0 (viewText view) (now (out .exit)) r ⌝ }
+{
+    let form = view.form;
+    if view.number == 0 {
+        return put_form(out, form, view.floor);
+    }
+    put_refused(out, view.number)
+}
+
+// What a record shows.
+fn view_of(record: &[u8]) -> View
+    ensures { λ r. ⌜ Viewed (now («record» .entry)) r ⌝ }
+{
+    let judged = judge::judge(record);
+    let refusal = judged.refusal;
+    let number = refusal.number();
+    let read = reader::read(record);
+    let form = read.form;
+    if number != 0 {
+        return View {
+            number,
+            form,
+            floor: 0,
+        };
+    }
+    let floored = floor::floor(record);
+    View {
+        number,
+        form,
+        floor: floored.floor,
+    }
+}
+
+// The record's listing into `out`, or what the judge refuses of it; Room leaves `out` as it was.
+pub fn list(record: &[u8], out: &mut [u8]) -> Listed
+    ensures { λ r. ⌜ r ≡ listed (now («record» .entry)) (length (now (out .entry))) ⌝ }
+    ensures { λ _. ⌜ now (out .exit) ≡ listedBuffer (now («record» .entry)) (now (out .entry)) ⌝ }
+{
+    let view = view_of(record);
+    // into no room: the size alone
+    let size = put_view(&mut out[..0], view);
+    if out.len() < size {
+        return Listed {
+            refusal: Refusal::Room(0),
+            size: 0,
+        };
+    }
+    put_view(out, view);
+    Listed {
+        refusal: Refusal::None,
+        size: size as u32,
+    }
 }

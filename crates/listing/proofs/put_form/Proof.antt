@@ -1,4 +1,7 @@
 use borrow.Author.Needs.{needs}
+use Rattle.writer.proofs.Laws.{both}
+use Rattle.listing.specs.Text.{markLine}
+use Rattle.listing.specs.Lines.{formLines}
 use Rattle.listing.proofs.put_form.Statement.{statement}
 use Rattle.listing.proofs.put_form.Tie as tie
 use Rattle.listing.proofs.put_form.Reads as reads
@@ -7,29 +10,24 @@ use Rattle.listing.proofs.put_counts.Reads as put-counts-reads
 use Rattle.listing.proofs.put_lines.Reads as put-lines-reads
 use Rattle.listing.proofs.put_word.Reads as put-word-reads
 
--- src/lib.rt:224:35
 slice-aggregate-put-word : tie.Need-slice-aggregate-put-word
 slice-aggregate-put-word c = search needs
 
--- src/lib.rt:224:9
 put-word-requires : tie.Need-put-word-requires
 put-word-requires c κs = search needs
 
--- src/lib.rt:225:9
 put-counts-requires : tie.Need-put-counts-requires
 put-counts-requires c κs = search needs
 
--- src/lib.rt:226:5
 put-lines-requires : tie.Need-put-lines-requires
 put-lines-requires c κs = search needs
 
--- src/lib.rt:220:1
 same-length : tie.Need-same-length
 same-length c = search needs
 
--- src/lib.rt:220:1
 returns : tie.Need-returns
-returns c = ?
+unfolding markLine formLines
+returns c = (search needs, both _ _ _ _ _ _ _ _ (c .before .before .before .before .before .before .before .before .before .before .put-word .ensures) (both _ _ _ _ _ _ _ _ (c .before .before .before .before .before .before .put-counts .ensures .1) (c .before .before .put-lines .ensures .1)))
 
 pub put-form-spec : {M : Type 1} → statement M
 put-form-spec =
