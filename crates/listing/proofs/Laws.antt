@@ -1,13 +1,14 @@
 -- Runs of text laid one after the other: bytes, numbers, nodes, lines.
 -- Assumes nothing.
-use mathlib.Core.Path.{_≡_, refl, sym, _∙_}
+use mathlib.Core.Path.{_≡_, refl, sym, ap, _∙_}
 use mathlib.Core.List.{List, [], _∷_, _++_, map, append-assoc}
 use mathlib.Core.Logic.{_≢_}
 use Prim.Native.Nat.{ℕ, _+_, _/_, _%_, _≤_, _<_, max}
+use native.Mathlib.Nat.{zero-add}
 use native.Mathlib.Numerals.{add-one}
 use native.Mathlib.Omega.{arith}
 use lib.Dec.{eqb}
-use lib.ListN.{length, getD, take}
+use lib.ListN.{length, getD, take, length-append}
 use lib.Seq.{set-out, take-suc, take-all}
 use borrow.Author.Needs.{needs}
 use borrow.Author.Tests.{le-ltb, lt-ltb, eq-eqb, ne-eqb}
@@ -15,16 +16,20 @@ use Rattle.lists.specs.Pick.{pick, pick-true, pick-false}
 use Rattle.lists.specs.Span.{span}
 use Rattle.lists.specs.Fold.{top}
 use Rattle.lists.specs.Sums.{top-none, top-last}
+use Rattle.answer.specs.Refused.{fine}
+use Rattle.answer.specs.declared.Refusal.the-variants.{None, Room}
 use Rattle.form.specs.declared.Form.{Form}
 use Rattle.form.specs.Places.{startOf, retimingOf}
 use Rattle.legal.specs.Loop.{loopOf}
 use Rattle.floor.specs.Parts.{floorLength}
 use Rattle.writer.specs.Layout.{rows}
 use Rattle.writer.specs.Laid.{Laid}
-use Rattle.writer.proofs.Laws.{nothing, both, row-more}
-use Rattle.listing.specs.Text.{decimal, newline, depthWord, floorWord, shortestWord, openWord}
-use Rattle.listing.specs.Lines.{depthOf, retimingText, nodeText, nodesText, orIdle, stepLine, verdict, countsLine}
-use Rattle.listing.specs.Shown.{Shown, sizesText}
+use Rattle.writer.proofs.Laws.{nothing, both, row-more, same-long}
+use Rattle.listing.specs.declared.Listed.{Listed}
+use Rattle.listing.specs.declared.View.{View}
+use Rattle.listing.specs.Text.{decimal, newline, depthWord, floorWord, shortestWord, openWord, refusedWord}
+use Rattle.listing.specs.Lines.{depthOf, retimingText, nodeText, nodesText, orIdle, stepLine, verdict, countsLine, formLines, refusedLine, listingOf, listed, listedBuffer}
+use Rattle.listing.specs.Shown.{Shown, sizesText, Viewed, viewText}
 
 pub ruleset tests = (needs, le-ltb, lt-ltb, eq-eqb, ne-eqb)
 
@@ -164,3 +169,39 @@ unfolding verdict
 counts-put f l at m o p r e g h k floor depth s d x y z w =
     rw (counts-text f) at
     (both l at (sizesText f) _ m r e k x (rw (d, s .is) at (both m e (depthWord ++ decimal depth) _ o r g k y (both o g (floorWord ++ decimal floor) _ p r h k z w))))
+
+-- ---- the whole listing
+
+module _ (v : View) (l m : List ℕ) (e : ℕ) where
+  pub form-put : v .number ≡ 0 → Laid l 0 (formLines (v .form)) m e → Laid l 0 (viewText v) m e
+  unfolding viewText
+  form-put h x = rw (pick-true _ _ _ (eq-eqb (v .number) 0 h)) x
+
+  pub refused-put : v .number ≢ 0 → Laid l 0 (refusedWord ++ (decimal (v .number) ++ newline)) m e → Laid l 0 (viewText v) m e
+  unfolding viewText
+  refused-put h x = rw (pick-false _ _ _ (ne-eqb (v .number) 0 h)) x
+
+view-listing : (s : List ℕ) (v : View) → Viewed s v → viewText v ≡ listingOf s
+unfolding viewText listingOf refusedLine fine
+view-listing s v t = rw (t .number, t .form)
+
+-- a listing measured in no room, then put where it fits
+module _ (s out : List ℕ) (v : View) (t : Viewed s v) (m : List ℕ) (size : ℕ) (x : Laid [] 0 (viewText v) m size) where
+  nothing-put : m ≡ []
+  nothing-put = empty m (same-long [] (viewText v) m 0 size x)
+
+  size-is : size ≡ length (listingOf s)
+  size-is = x .ends ∙ zero-add (length (viewText v)) ∙ ap length (view-listing s v t)
+
+  pub cramped : length (m ++ out) < size → (_≡_ {A = Listed} (record { refusal = Room 0; size = 0 }) (listed s (length out))) × (m ++ out ≡ listedBuffer s out)
+  unfolding listed listedBuffer
+  cramped h =
+      let less = lt-ltb (length out) (length (listingOf s)) (omega (arith, size-is, ap length nothing-put, length-append m out)) in
+      (sym (pick-true _ _ _ less), rw nothing-put (sym (pick-true _ _ _ less)))
+
+  pub fits : (last : List ℕ) (end : ℕ) → size ≤ length (m ++ out) → Laid (m ++ out) 0 (viewText v) last end
+      → (_≡_ {A = Listed} (record { refusal = None; size = size }) (listed s (length out))) × (last ≡ listedBuffer s out)
+  unfolding listed listedBuffer
+  fits last end h y =
+      let enough = le-ltb (length out) (length (listingOf s)) (omega (arith, size-is, ap length nothing-put, length-append m out)) in
+      (rw size-is (sym (pick-false _ _ _ enough)), y .is ∙ rw (nothing-put, view-listing s v t) (sym (pick-false _ _ _ enough)))

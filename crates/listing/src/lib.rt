@@ -101,14 +101,7 @@ fn put_retiming(out: &mut [u8], at: usize, retiming: u8) -> usize
 }
 
 // A node where it starts in the step.
-fn put_node(
-    out: &mut [u8],
-    at: usize,
-    step: u16,
-    node: u32,
-    start: BodyStep,
-    retiming: u8,
-) -> usize
+fn put_node(out: &mut [u8], at: usize, step: u16, node: u32, start: BodyStep, retiming: u8) -> usize
     requires { ⌜ (at ≤ 700000) × (node < 1000) ⌝ }
     ensures { λ r. ⌜ (r ≤ at + 8) × Laid (now (out .entry)) at (pick (eqb (start .0) step) (32 ∷ (decimal node ++ retimingText retiming)) []) (now (out .exit)) r ⌝ }
 {

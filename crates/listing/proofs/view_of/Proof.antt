@@ -1,4 +1,6 @@
+use native.Mathlib.Omega.{arith}
 use borrow.Author.Needs.{needs}
+use Rattle.listing.proofs.Accepted.{refused-viewed, form-viewed}
 use Rattle.listing.proofs.view_of.Statement.{statement}
 use Rattle.listing.proofs.view_of.Tie as tie
 use Rattle.listing.proofs.view_of.Reads as reads
@@ -8,29 +10,23 @@ use Rattle.floor.proofs.floor.Reads as floor-reads
 use Rattle.judge.proofs.judge.Reads as judge-reads
 use Rattle.reader.proofs.read.Reads as read-reads
 
--- src/lib.rt:261:9
 judge-requires : tie.Need-judge-requires
 judge-requires c κs = search needs
 
--- src/lib.rt:263:9
 number-requires : tie.Need-number-requires
 number-requires c κs = search needs
 
--- src/lib.rt:264:9
 read-requires : tie.Need-read-requires
 read-requires c κs = search needs
 
--- src/lib.rt:267:9
 returns : tie.Need-returns
-returns c = ?
+returns c = refused-viewed _ _ _ _ (c .before .before .before .before .judge .ensures) (c .before .before .read .ensures) (c .before .before .before .number .ensures) (c .if1 .taken)
 
--- src/lib.rt:273:9
 floor-requires : tie.Need-floor-requires
 floor-requires c κs = search needs
 
--- src/lib.rt:258:1
 returns-2 : tie.Need-returns-2
-returns-2 c = ?
+returns-2 c = form-viewed _ _ _ _ (c .before .before .before .before .before .judge .ensures) (c .before .before .before .read .ensures) (c .before .before .before .before .number .ensures) (λ i. omega (arith, c .before .before .before .before .before .before .shared-slice-known .given i)) (c .before .if1 .left) _ (c .floor .ensures)
 
 pub view-of-spec : {M : Type 1} → statement M
 view-of-spec =
