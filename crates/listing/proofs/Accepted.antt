@@ -1,0 +1,115 @@
+-- A record that the judge accepts can be shown: its numbers are small, and the floor worked out is its loop's.
+-- Assumes nothing.
+use mathlib.Core.Path.{_≡_, refl, sym, ap, subst, _∙_}
+use mathlib.Core.Bool.{Bool, true, false}
+use mathlib.Core.Logic.{_≢_}
+use mathlib.Core.List.{List}
+use Prim.Native.Nat.{ℕ, _≤_, _<_}
+use native.Mathlib.Omega.{arith}
+use borrow.Author.Tests.{eq-eqb}
+use Rattle.lists.specs.Pick.{pick-true, pick-false, both-ways}
+use Rattle.answer.specs.Refused.{numberOf, fine}
+use Rattle.answer.specs.declared.Refusal.{Refusal}
+use Rattle.answer.specs.declared.Refusal.the-variants.{None, Short, Mark, Version, Count, Machine, Node, Edge, Start, Retiming, Tail, Bare, Knot, Dependence, NoRetiming, Units, Size, Long, Room, Early, Busy}
+use Rattle.form.specs.declared.Form.{Form}
+use Rattle.form.specs.Ranges.{WellFormed}
+use Rattle.field.specs.Number.{Bytes}
+use Rattle.reader.specs.declared.Record.{Record}
+use Rattle.reader.specs.Reading.{readForm}
+use Rattle.record.specs.Read.{read-well-formed}
+use Rattle.legal.specs.Loop.{loopOf, pairOf}
+use Rattle.legal.specs.Shape.{sound-form}
+use Rattle.legal.specs.Systems.{knotted}
+use Rattle.legal.specs.Knots.{free-unknotted}
+use Rattle.legal.specs.Paced.{legal-free}
+use Rattle.legal.specs.Judging.{judgeOf}
+use Rattle.legal.specs.Judged.{judge-accepts}
+use Rattle.judge.specs.declared.Judged.{Judged}
+use Rattle.judge.specs.Judgement.{judgeRecord, RecordJudgement}
+use Rattle.floor.specs.declared.Floored.{Floored}
+use Rattle.floor.specs.Parts.{floorLength}
+use Rattle.floor.specs.Bounds.{floor-bound}
+use Rattle.floor.specs.Floor.{floorRefusal, floorRecord, RecordFloored}
+use Rattle.listing.specs.Shown.{Shown, Viewed}
+
+record Numbered (r : Refusal) : Type 0 where
+  small : numberOf r ≤ 20
+  none : numberOf r ≡ 0 → r ≡ None
+
+numbered : (r : Refusal) → Numbered r
+numbered None = record { small = omega arith; none = λ h. refl }
+numbered (Short a) = record { small = omega arith; none = λ h. absurd (omega arith) }
+numbered (Mark a) = record { small = omega arith; none = λ h. absurd (omega arith) }
+numbered (Version a) = record { small = omega arith; none = λ h. absurd (omega arith) }
+numbered (Count a) = record { small = omega arith; none = λ h. absurd (omega arith) }
+numbered (Machine a) = record { small = omega arith; none = λ h. absurd (omega arith) }
+numbered (Node a) = record { small = omega arith; none = λ h. absurd (omega arith) }
+numbered (Edge a) = record { small = omega arith; none = λ h. absurd (omega arith) }
+numbered (Start a) = record { small = omega arith; none = λ h. absurd (omega arith) }
+numbered (Retiming a) = record { small = omega arith; none = λ h. absurd (omega arith) }
+numbered (Tail a) = record { small = omega arith; none = λ h. absurd (omega arith) }
+numbered Bare = record { small = omega arith; none = λ h. absurd (omega arith) }
+numbered Knot = record { small = omega arith; none = λ h. absurd (omega arith) }
+numbered (Dependence a) = record { small = omega arith; none = λ h. absurd (omega arith) }
+numbered NoRetiming = record { small = omega arith; none = λ h. absurd (omega arith) }
+numbered (Units a b) = record { small = omega arith; none = λ h. absurd (omega arith) }
+numbered (Size a) = record { small = omega arith; none = λ h. absurd (omega arith) }
+numbered Long = record { small = omega arith; none = λ h. absurd (omega arith) }
+numbered (Room a) = record { small = omega arith; none = λ h. absurd (omega arith) }
+numbered (Early a b c) = record { small = omega arith; none = λ h. absurd (omega arith) }
+numbered (Busy a b c) = record { small = omega arith; none = λ h. absurd (omega arith) }
+
+-- the judge accepts a form that the reader read
+accepted : (s : List ℕ) → numberOf (judgeRecord s) ≡ 0 → (fine (readForm s .refusal) ≡ true) × (judgeOf (readForm s .form) ≡ None)
+unfolding judgeRecord fine
+accepted s h = go (fine (readForm s .refusal)) refl
+  where
+    go : (b : Bool) → fine (readForm s .refusal) ≡ b → (fine (readForm s .refusal) ≡ true) × (judgeOf (readForm s .form) ≡ None)
+    go true e = (e, numbered (judgeOf (readForm s .form)) .none (sym (ap numberOf (pick-true _ _ _ e)) ∙ h))
+    go false e = both-ways (eq-eqb (numberOf (readForm s .refusal)) 0 (sym (ap numberOf (pick-false _ _ _ e)) ∙ h)) e
+
+module _ (s : List ℕ) (r : Floored) (t : RecordFloored s r) (reads : fine (readForm s .refusal) ≡ true) (free : knotted (loopOf (readForm s .form)) ≡ false) where
+  -- a loop without a knot is not refused its floor
+  floor-fine : r .refusal ≡ None
+  unfolding floorRecord floorRefusal
+  floor-fine = t .refusal ∙ pick-true _ _ _ reads ∙ pick-false _ _ _ free
+
+  floor-is : r .floor ≡ floorLength (loopOf (readForm s .form))
+  unfolding fine
+  floor-is = t .floor ∙ pick-true _ _ _ (subst (λ (x : Refusal). fine x ≡ true) (sym floor-fine) refl)
+
+form-shown : (s : List ℕ) → Bytes s → (r : Floored) → RecordFloored s r → numberOf (judgeRecord s) ≡ 0 → Shown (readForm s .form) (r .floor)
+unfolding pairOf
+form-shown s b r t accepts =
+    let f : Form = readForm s .form in
+    let a = accepted s accepts in
+    let w : WellFormed f = read-well-formed s b (a .0) in
+    let legal = judge-accepts f w (a .1) .1 in
+    let free = free-unknotted (loopOf f) (sound-form f w) (legal-free (loopOf f) (pairOf f) (sound-form f w) legal) in
+    record {
+      nodes = w .nodes .1;
+      edges = w .edges;
+      length = w .length;
+      near = omega (arith, floor-is s r t (a .0) free, floor-bound (loopOf f) (pairOf f) (sound-form f w) legal);
+      is = floor-is s r t (a .0) free;
+    }
+
+-- ---- what a record shows
+
+module _ (s : List ℕ) (j : Judged) (x : Record) (n : ℕ) (tj : RecordJudgement s j) (tx : x ≡ readForm s) (tn : n ≡ numberOf (j .refusal)) where
+  number-is : n ≡ numberOf (judgeRecord s)
+  number-is = tn ∙ ap numberOf (tj .refusal)
+
+  form-is : x .form ≡ readForm s .form
+  form-is = ap (λ (y : Record). y .form) tx
+
+  viewed : (floor : ℕ) → (n ≡ 0 → Shown (x .form) floor) → Viewed s (record { number = n; form = x .form; floor = floor })
+  viewed floor shown =
+      let small = numbered (judgeRecord s) .small in
+      record { number = number-is; form = form-is; seen = record { small = omega (arith, number-is); shown = shown } }
+
+  pub refused-viewed : n ≢ 0 → Viewed s (record { number = n; form = x .form; floor = 0 })
+  refused-viewed h = viewed 0 (λ z. absurd (h z))
+
+  pub form-viewed : Bytes s → n ≡ 0 → (r : Floored) → RecordFloored s r → Viewed s (record { number = n; form = x .form; floor = r .floor })
+  form-viewed b h r t = viewed (r .floor) (λ z. subst (λ (f : Form). Shown f (r .floor)) (sym form-is) (form-shown s b r t (sym number-is ∙ h)))

@@ -1,0 +1,23 @@
+use borrow.Author.Needs.{needs}
+use Rattle.writer.proofs.Laws.{both}
+use Rattle.listing.proofs.put_field.Statement.{statement}
+use Rattle.listing.proofs.put_field.Tie as tie
+use Rattle.listing.proofs.put_field.Reads as reads
+use Rattle.listing.proofs.put_field.Lts as lts
+use Rattle.listing.proofs.put_number.Reads as put-number-reads
+use Rattle.listing.proofs.put_word.Reads as put-word-reads
+
+put-word-requires : tie.Need-put-word-requires
+put-word-requires c κs = search needs
+
+put-number-requires : tie.Need-put-number-requires
+put-number-requires c κs = search needs
+
+same-length : tie.Need-same-length
+same-length c = search needs
+
+returns : tie.Need-returns
+returns c = (search needs, both _ _ _ _ _ _ _ _ (c .before .before .before .before .before .before .put-word .ensures) (c .before .before .put-number .ensures .1))
+
+pub put-field-spec : {M : Type 1} → statement M
+put-field-spec = tie.close (tie.spec put-word-requires put-number-requires same-length returns)

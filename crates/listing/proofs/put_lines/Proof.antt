@@ -1,0 +1,59 @@
+use mathlib.Core.Path.{_≡_}
+use Prim.Native.Nat.{_≤_, _+_, _*_, _-_}
+use native.Mathlib.Omega.{arith}
+use Rattle.writer.specs.Layout.{rows}
+use Rattle.writer.specs.Laid.{Laid}
+use Rattle.writer.proofs.Laws.{nothing, row-more, same-long}
+use Rattle.listing.specs.Lines.{stepLine}
+use Rattle.listing.proofs.Laws.{tests, rows-whole}
+use Rattle.listing.proofs.put_lines.Statement.{statement}
+use Rattle.listing.proofs.put_lines.Tie as tie
+use Rattle.listing.proofs.put_lines.Reads as reads
+use Rattle.listing.proofs.put_lines.Lts as lts
+use Rattle.listing.proofs.put_line.Reads as put-line-reads
+
+abbrev Inv-loop : tie.InvT-loop
+Inv-loop out₀ at form length next₀ i₀ out next i = (i ≤ length) × (next ≤ at + 517 * i) × Laid out₀ at (rows (λ k. stepLine form (k + 1)) i) out next
+
+abbrev μ-loop : tie.MeasureT-loop
+μ-loop out₀ at form length next₀ i₀ out next i = length - i
+
+loop-holds : tie.Need-loop-holds Inv-loop μ-loop
+unfolding rows
+loop-holds c = (search tests, search tests, nothing _ _)
+
+add-put-line : tie.Need-add-put-line Inv-loop μ-loop
+add-put-line c = search tests
+
+put-line-requires : tie.Need-put-line-requires Inv-loop μ-loop
+put-line-requires c κs = search tests
+
+add-i : tie.Need-add-i Inv-loop μ-loop
+add-i c = search tests
+
+loop-less : tie.Need-loop-less Inv-loop μ-loop
+loop-less c = search tests
+
+loop-again : tie.Need-loop-again Inv-loop μ-loop
+loop-again c = (search tests, search tests, row-more _ _ _ _ _ _ _ _ (c .before .before .before .before .before .loop .inv .2) (c .before .before .put-line .ensures .1))
+
+same-length : tie.Need-same-length Inv-loop μ-loop
+same-length c = same-long _ _ _ _ _ (c .before .loop .inv .2)
+
+returns : tie.Need-returns Inv-loop μ-loop
+returns c = (search tests, rows-whole _ _ _ _ _ _ _ (c .before .loop .inv .2) (omega arith))
+
+pub put-lines-spec : {M : Type 1} → statement M
+put-lines-spec =
+    tie.close
+    (tie.spec
+    Inv-loop
+    μ-loop
+    loop-holds
+    add-put-line
+    put-line-requires
+    add-i
+    loop-less
+    loop-again
+    same-length
+    returns)

@@ -1,0 +1,27 @@
+use borrow.Author.Needs.{needs}
+use Rattle.listing.proofs.Laws.{retiming-none, retiming-some}
+use Rattle.listing.proofs.put_retiming.Statement.{statement}
+use Rattle.listing.proofs.put_retiming.Tie as tie
+use Rattle.listing.proofs.put_retiming.Reads as reads
+use Rattle.listing.proofs.put_retiming.Lts as lts
+use Rattle.listing.proofs.put_byte.Reads as put-byte-reads
+use Rattle.listing.proofs.put_number.Reads as put-number-reads
+
+returns : tie.Need-returns
+returns c = (search needs, retiming-none _ _ _ (c .if1 .taken))
+
+put-byte-requires : tie.Need-put-byte-requires
+put-byte-requires c κs = search needs
+
+put-number-requires : tie.Need-put-number-requires
+put-number-requires c κs = search needs
+
+same-length : tie.Need-same-length
+same-length c = search needs
+
+returns-2 : tie.Need-returns-2
+returns-2 c = (search needs, retiming-some _ _ _ _ _ _ _ (c .before .before .before .before .before .before .before .before .if1 .left) (c .before .before .before .before .before .before .put-byte .ensures .1) (c .before .before .put-number .ensures .1))
+
+pub put-retiming-spec : {M : Type 1} → statement M
+put-retiming-spec =
+    tie.close (tie.spec returns put-byte-requires put-number-requires same-length returns-2)

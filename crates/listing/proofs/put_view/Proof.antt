@@ -1,0 +1,31 @@
+use borrow.Author.Needs.{needs}
+use Rattle.listing.proofs.Laws.{form-put, refused-put}
+use Rattle.listing.proofs.put_view.Statement.{statement}
+use Rattle.listing.proofs.put_view.Tie as tie
+use Rattle.listing.proofs.put_view.Reads as reads
+use Rattle.listing.proofs.put_view.Lts as lts
+use Rattle.listing.proofs.put_form.Reads as put-form-reads
+use Rattle.listing.proofs.put_refused.Reads as put-refused-reads
+
+put-form-requires : tie.Need-put-form-requires
+put-form-requires c κs = c .before .before .before .before .before .pre .shown (c .before .if1 .taken)
+
+same-length : tie.Need-same-length
+same-length c = search needs
+
+returns : tie.Need-returns
+returns c = (search needs, form-put _ _ _ _ (c .before .before .before .before .if1 .taken) (c .before .before .put-form .ensures .1))
+
+put-refused-requires : tie.Need-put-refused-requires
+put-refused-requires c κs = search needs
+
+same-length-2 : tie.Need-same-length-2
+same-length-2 c = search needs
+
+returns-2 : tie.Need-returns-2
+returns-2 c = (search needs, refused-put _ _ _ _ (c .before .before .before .before .if1 .left) (c .before .before .put-refused .ensures .1))
+
+pub put-view-spec : {M : Type 1} → statement M
+put-view-spec =
+    tie.close
+    (tie.spec put-form-requires same-length returns put-refused-requires same-length-2 returns-2)
