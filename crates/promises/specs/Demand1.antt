@@ -32,6 +32,11 @@ use Rattle.fit.specs.Fitting.{fitRecord, fitBuffer, RecordFitted}
 use Rattle.floor.specs.declared.Floored.{Floored}
 use Rattle.floor.specs.declared.Part.the-variants as part
 use Rattle.floor.specs.Floor.{RecordFloored}
+use mathlib.Core.Bool.{Bool, true≢false}
+use mathlib.Core.Path.{refl}
+use lib.Dec.{ltb}
+use Rattle.listing.specs.declared.Listed.{Listed}
+use Rattle.listing.specs.Lines.{listingOf, listed, listedBuffer}
 use mathlib.Core.Path.{ap}
 
 -- what a definition gives is one thing
@@ -85,11 +90,11 @@ pub rewrite-refused : (s out : List ℕ) → fine (rewritten s (length out) .ref
 unfolding rewritten rewrittenOut written pick
 rewrite-refused s out e = go (fine (readForm s .refusal)) e
   where
-    go : (b : mathlib.Core.Bool.Bool)
+    go : (b : Bool)
         → fine (pick b (written (readForm s .form) (length out)) (record { refusal = readForm s .refusal; size = 0 }) .refusal) ≡ false
         → pick b (bufferAfter (readForm s .form) out) out ≡ out
     go true e = write-refused (readForm s .form) out e
-    go false e = mathlib.Core.Path.refl
+    go false e = refl
 
 -- where no cycle is handed over, it is the empty one
 pub cycle-settled : (g : Loop) (p : Pair) (r q : Refusal) (c d : Cycle) → Handed g p r c → Handed g p q d → r ≡ q
@@ -132,3 +137,23 @@ floor-settled s a b p q =
       named,
       λ k n. settled (a .cycle) (b .cycle) (p .cycle .none k n) (q .cycle .none (λ t. k (same ∙ t)) (λ t. n (named ∙ t))),
     )
+
+-- listing: what it answers, and the buffer it leaves
+pub record ListedInto (s out : List ℕ) (r : Listed) (after : List ℕ) : Type 0 where
+  pub answer : r ≡ listed s (length out)
+  pub buffer : after ≡ listedBuffer s out
+
+pub list-settled : (s out : List ℕ) (a b : Listed) (after again : List ℕ) → ListedInto s out a after → ListedInto s out b again
+    → (a ≡ b) × (after ≡ again)
+list-settled s out a b after again p q = (settled a b (p .answer) (q .answer), settled after again (p .buffer) (q .buffer))
+
+-- a listing without room leaves the buffer as it was
+pub list-refused : (s out : List ℕ) → fine (listed s (length out) .refusal) ≡ false → listedBuffer s out ≡ out
+unfolding listed listedBuffer pick fine
+list-refused s out e = go (ltb (length out) (length (listingOf s))) e
+  where
+    go : (b : Bool)
+        → fine (pick b (record { refusal = refusal.Room 0; size = 0 }) (record { refusal = refusal.None; size = length (listingOf s) }) .refusal) ≡ false
+        → pick b out (lib.Seq.sets out 0 (listingOf s)) ≡ out
+    go true e = refl
+    go false e = absurd (true≢false e)
