@@ -10,3 +10,5 @@ pub mod Filling
 pub mod Placed
 pub mod FirstLegal
 pub mod Tables
+pub mod Turned
+pub mod TurnedLegal

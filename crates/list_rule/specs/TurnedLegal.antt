@@ -1,0 +1,180 @@
+-- Rotation of a legal pair places every node, keeps the starts of the nodes that stay less z, keeps the unit rule and the edges' limits; with the retiming fitted afresh it is legal.
+-- Assumes nothing.
+use mathlib.Core.Path.{_≡_, refl, ap}
+use mathlib.Core.Bool.{Bool, true, false}
+use mathlib.Core.Logic.{⊎-elim}
+use mathlib.Core.List.{List}
+use Prim.Native.Nat.{ℕ, _+_, _-_, _≤_, _<_}
+use native.Mathlib.Omega.{arith}
+use native.Mathlib.Decide.{ℕ-discrete}
+use borrow.Author.Tests.{eqb-false, eq-eqb, le-leb, lt-ltb}
+use lib.ListN.{length, length-map}
+use Rattle.lists.specs.Pick.{pick-ind}
+use Rattle.lists.specs.Both.{both-and}
+use Rattle.lists.specs.Count.{count-le, count-some}
+use Rattle.legal.specs.Loop.{Loop, Pair, runsOn, latency, hold}
+use Rattle.legal.specs.Legal.{Legal, UnitRule, occupies, busy}
+use Rattle.legal.specs.Systems.{lateness, Fits}
+use Rattle.legal.specs.Shape.{Sound, Bodied}
+use Rattle.legal.specs.Limits.{timed}
+use Rattle.legal.specs.Fitted.{Settles, fits-settles, fittedPair, fitted-legal}
+use Rattle.reach.specs.Weight.{tight}
+use Rattle.list_rule.specs.Rule.{startAt, uses, inUse, listRule, lengthOf}
+use Rattle.list_rule.specs.Kept.{Keeps, fill-keeps}
+use Rattle.list_rule.specs.Units.{Kept, uses-told, rule-units, in-use-busy}
+use Rattle.list_rule.specs.Edges.{InTime, rule-in-time}
+use Rattle.list_rule.specs.Ends.{work, length-ends}
+use Rattle.list_rule.specs.Filling.{Staffed, Within, Filled, filled-length}
+use Rattle.list_rule.specs.Placed.{rule-places}
+use Rattle.list_rule.specs.Turned.{gainedBy, droppedBy, dropped-at, turns-or-stays, turned-over, tight-turns, stays-in-time, turned-ranked}
+
+-- the rule keeps the starts given
+pub rule-keeps : (g : Loop) (r : ℕ → ℕ) (s : List ℕ) → Keeps s (listRule g r s)
+unfolding listRule
+rule-keeps g r s = fill-keeps g r _ 1023 1 s
+
+-- the starts after a rotation by z steps of the pair with the starts s
+unfoldable pub turnedStarts : Loop → Pair → ℕ → List ℕ → List ℕ
+turnedStarts g p z s = listRule g (gainedBy p z) (droppedBy z s)
+
+-- a table of 64 places with the pair's starts
+pub record Tabled (g : Loop) (p : Pair) (s : List ℕ) : Type 0 where
+  pub long : length s ≡ 64
+  pub is : (v : ℕ) → v < g .graph .nodes → startAt s v ≡ p .start v
+
+module _ (g : Loop) (p : Pair) (z : ℕ) (s : List ℕ) (sound : Sound g) (legal : Legal g p) (tabled : Tabled g p s) where
+  -- the table after the drop
+  dropped : (v : ℕ) → v < g .graph .nodes → startAt (droppedBy z s) v ≡ p .start v - z
+  dropped v l = omega (arith, dropped-at z s v, tabled .is v l)
+
+  within : z < p .length → Within g (droppedBy z s) (p .length - z)
+  unfolding droppedBy
+  within below = record {
+    long = omega (arith, length-map s (λ a. a - z), tabled .long, sound .few);
+    ends = λ v l h. omega (arith, dropped v l, legal .body v l .ends);
+  }
+
+  -- every node is placed
+  pub turned-filled : Staffed g → 1 ≤ z → z < p .length → p .length ≤ 512 → Filled g (turnedStarts g p z s) (p .length - z + work g (droppedBy z s))
+  unfolding turnedStarts
+  turned-filled staffed one below short =
+      rule-places g (gainedBy p z) sound staffed (turned-ranked g p z sound legal) (droppedBy z s) (p .length - z) (within below) (omega arith)
+
+  -- a node that stays starts z steps earlier
+  pub turned-stays : (v : ℕ) → v < g .graph .nodes → z < p .start v → startAt (turnedStarts g p z s) v ≡ p .start v - z
+  unfolding turnedStarts
+  turned-stays v l h =
+      let d = dropped v l in
+      omega (arith, d, rule-keeps g (gainedBy p z) (droppedBy z s) v (omega (arith, d)))
+
+  -- ---- the unit rule
+
+  hold-le : (v : ℕ) → v < g .graph .nodes → hold (g .class (runsOn g v)) ≤ latency g v
+  unfolding hold
+  hold-le v l = pick-ind (λ x. x ≤ latency g v) _ (latency g v) 1 (λ e. omega arith) (λ e. sound .works v l)
+
+  -- what is in use at q was occupied at q + z
+  uses-occupies : (c q v : ℕ) → v < g .graph .nodes → uses g (droppedBy z s) c q v ≡ true → occupies g p c (q + z) v ≡ true
+  unfolding occupies
+  uses-occupies c q v l e =
+      let o = uses-told g (droppedBy z s) c q v e in
+      let d = dropped v l in
+      let since : p .start v ≤ q + z = omega (arith, d, o .placed, o .since) in
+      let until : q + z < p .start v + hold (g .class c) = omega (arith, d, o .placed, o .until) in
+      both-and _ _ (eq-eqb _ _ (o .class)) (both-and _ _ (le-leb _ _ since) (lt-ltb _ _ until))
+
+  -- in a step of the body
+  uses-within : (c q v : ℕ) → v < g .graph .nodes → uses g (droppedBy z s) c q v ≡ true → q + z ≤ p .length
+  uses-within c q v l e =
+      let o = uses-told g (droppedBy z s) c q v e in
+      omega (arith, dropped v l, o .placed, o .until, ap (λ (d : ℕ). hold (g .class d)) (o .class), hold-le v l, legal .body v l .ends)
+
+  -- the nodes that stay keep the unit rule
+  dropped-units : (c q : ℕ) → c < g .classes → 1 ≤ q → Kept g c q (droppedBy z s)
+  unfolding inUse busy
+  dropped-units c q lc one =
+      elim (ℕ-discrete (inUse g (droppedBy z s) c q) 0) [
+        | yes k ↦ omega arith
+        | no k ↦
+            let w = count-some (uses g (droppedBy z s) c q) (g .graph .nodes) (omega arith) in
+            let more : inUse g (droppedBy z s) c q ≤ busy g p c (q + z) = count-le (uses g (droppedBy z s) c q) (occupies g p c (q + z)) (g .graph .nodes) (λ v l e. uses-occupies c q v l e) in
+            let most : busy g p c (q + z) ≤ g .class c .units = legal .units (q + z) c (omega arith) (uses-within c q (w .0) (w .1) (w .2)) lc in
+            omega (arith, more, most)
+      ]
+
+  -- and so do all when the rule is done
+  pub turned-units : (c q : ℕ) → c < g .classes → 1 ≤ q → Kept g c q (turnedStarts g p z s)
+  unfolding turnedStarts
+  turned-units c q lc one = rule-units g (gainedBy p z) c q (droppedBy z s) (dropped-units c q lc one)
+
+  -- ---- the edges
+
+  -- edges of retimed delay 0 between nodes that stay are in time
+  dropped-in-time : InTime g (gainedBy p z) (droppedBy z s)
+  dropped-in-time e l t h =
+      let du = dropped (g .graph .tail e) (sound .joined .tails e l) in
+      let dv = dropped (g .graph .head e) (sound .joined .heads e l) in
+      ⊎-elim
+      (λ u. let v = tight-turns g p z sound legal e l t u in absurd (omega (arith, h, dv, v .early)))
+      (λ u.
+      ⊎-elim
+      (λ v. absurd (omega (arith, h, dv, v .early)))
+      (λ v.
+      let k = stays-in-time g p z sound legal e l t u v in
+      record { placed = omega (arith, du, u .late); by = omega (arith, du, dv, u .late, v .late, k) })
+      (turns-or-stays p z (g .graph .head e)))
+      (turns-or-stays p z (g .graph .tail e))
+
+  -- and so are all when the rule is done
+  pub turned-in-time : InTime g (gainedBy p z) (turnedStarts g p z s)
+  unfolding turnedStarts
+  turned-in-time = rule-in-time g (gainedBy p z) (droppedBy z s) dropped-in-time
+
+  module _ (staffed : Staffed g) (one : 1 ≤ z) (below : z < p .length) (short : p .length ≤ 512) where
+    filled : Filled g (turnedStarts g p z s) (p .length - z + work g (droppedBy z s))
+    filled = turned-filled staffed one below short
+
+    -- the length is at least 1
+    pub turned-length : 1 ≤ lengthOf g (turnedStarts g p z s)
+    turned-length = filled-length g (turnedStarts g p z s) _ sound filled .0
+
+    module _ (q : Pair) (same : (v : ℕ) → v < g .graph .nodes → q .start v ≡ startAt (turnedStarts g p z s) v) where
+      -- the retimings after the gain fit the starts
+      pub turned-fits : Fits g q (gainedBy p z)
+      unfolding tight
+      turned-fits e l = go (tight g (gainedBy p z) e) refl
+        where
+          go : (b : Bool) → tight g (gainedBy p z) e ≡ b → gainedBy p z (g .graph .head e) + lateness g q e ≤ gainedBy p z (g .graph .tail e) + g .delay e
+          go true t =
+              let lu = sound .joined .tails e l in
+              let lv = sound .joined .heads e l in
+              let f = turned-in-time e l t (filled .placed (g .graph .head e) lv) in
+              ⊎-elim
+              (λ w. omega (arith, w .0, turned-over g p z sound legal e l))
+              (λ w. absurd (omega (arith, w .1, f .by, same (g .graph .tail e) lu, same (g .graph .head e) lv)))
+              (timed g q e)
+          go false t =
+              let over = turned-over g p z sound legal e l in
+              let loose : g .delay e + gainedBy p z (g .graph .tail e) ≡ gainedBy p z (g .graph .head e) → ⊥ = eqb-false _ _ t in
+              let more : gainedBy p z (g .graph .head e) < g .delay e + gainedBy p z (g .graph .tail e) = omega arith in
+              ⊎-elim (λ w. omega (arith, w .0, more)) (λ w. omega (arith, w .0, more)) (timed g q e)
+
+      -- so a retiming is found
+      pub turned-settles : Settles g q
+      turned-settles = fits-settles g q sound (gainedBy p z) turned-fits
+
+      module _ (long : q .length ≡ lengthOf g (turnedStarts g p z s)) where
+        -- every node starts in the body and ends in it
+        pub turned-bodied : Bodied g q
+        turned-bodied v l = record {
+          begins = omega (arith, same v l, filled .placed v l);
+          ends = omega (arith, same v l, long, length-ends g (turnedStarts g p z s) v l);
+        }
+
+        pub turned-unit-rule : UnitRule g q
+        turned-unit-rule k c a b lc =
+            omega (arith, in-use-busy g (turnedStarts g p z s) q (filled .placed) same c k, turned-units c k lc a)
+
+        -- with the retiming found the rotated pair is legal
+        pub turned-legal : Legal g (fittedPair g q)
+        turned-legal = fitted-legal g q sound turned-settles turned-bodied turned-unit-rule
