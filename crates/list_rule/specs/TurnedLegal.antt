@@ -1,6 +1,6 @@
 -- Rotation of a legal pair places every node, keeps the starts of the nodes that stay less z, keeps the unit rule and the edges' limits; with the retiming fitted afresh it is legal.
 -- Assumes nothing.
-use mathlib.Core.Path.{_≡_, refl, ap}
+use mathlib.Core.Path.{_≡_, refl, _∙_, ap}
 use mathlib.Core.Bool.{Bool, true, false}
 use mathlib.Core.Logic.{⊎-elim}
 use mathlib.Core.List.{List}
@@ -20,10 +20,10 @@ use Rattle.legal.specs.Limits.{timed}
 use Rattle.legal.specs.Fitted.{Settles, fits-settles, fittedPair, fitted-legal}
 use Rattle.reach.specs.Weight.{tight}
 use Rattle.list_rule.specs.Rule.{startAt, uses, inUse, listRule, lengthOf}
-use Rattle.list_rule.specs.Kept.{Keeps, fill-keeps}
+use Rattle.list_rule.specs.Kept.{Keeps, fill-keeps, fill-length}
 use Rattle.list_rule.specs.Units.{Kept, uses-told, rule-units, in-use-busy}
 use Rattle.list_rule.specs.Edges.{InTime, rule-in-time}
-use Rattle.list_rule.specs.Ends.{work, length-ends}
+use Rattle.list_rule.specs.Ends.{work, work-bound, length-ends}
 use Rattle.list_rule.specs.Filling.{Staffed, Within, Filled, filled-length}
 use Rattle.list_rule.specs.Placed.{rule-places}
 use Rattle.list_rule.specs.Turned.{gainedBy, droppedBy, dropped-at, turns-or-stays, turned-over, tight-turns, stays-in-time, turned-ranked}
@@ -36,6 +36,14 @@ rule-keeps g r s = fill-keeps g r _ 1023 1 s
 -- the starts after a rotation by z steps of the pair with the starts s
 unfoldable pub turnedStarts : Loop → Pair → ℕ → List ℕ → List ℕ
 turnedStarts g p z s = listRule g (gainedBy p z) (droppedBy z s)
+
+-- the pair that they make, with the retimings after the gain
+unfoldable pub turnedPair : Loop → Pair → ℕ → List ℕ → Pair
+turnedPair g p z s = record { start = startAt (turnedStarts g p z s); length = lengthOf g (turnedStarts g p z s); retiming = gainedBy p z }
+
+-- and with the retiming fitted afresh
+unfoldable pub rotated : Loop → Pair → ℕ → List ℕ → Pair
+rotated g p z s = fittedPair g (turnedPair g p z s)
 
 -- a table of 64 places with the pair's starts
 pub record Tabled (g : Loop) (p : Pair) (s : List ℕ) : Type 0 where
@@ -53,6 +61,11 @@ module _ (g : Loop) (p : Pair) (z : ℕ) (s : List ℕ) (sound : Sound g) (legal
     long = omega (arith, length-map s (λ a. a - z), tabled .long, sound .few);
     ends = λ v l h. omega (arith, dropped v l, legal .body v l .ends);
   }
+
+  -- the table after the rotation is as long
+  pub turned-long : length (turnedStarts g p z s) ≡ 64
+  unfolding turnedStarts listRule droppedBy
+  turned-long = fill-length g (gainedBy p z) _ 1023 1 (droppedBy z s) ∙ length-map s (λ a. a - z) ∙ tabled .long
 
   -- every node is placed
   pub turned-filled : Staffed g → 1 ≤ z → z < p .length → p .length ≤ 512 → Filled g (turnedStarts g p z s) (p .length - z + work g (droppedBy z s))
@@ -134,9 +147,11 @@ module _ (g : Loop) (p : Pair) (z : ℕ) (s : List ℕ) (sound : Sound g) (legal
     filled : Filled g (turnedStarts g p z s) (p .length - z + work g (droppedBy z s))
     filled = turned-filled staffed one below short
 
-    -- the length is at least 1
-    pub turned-length : 1 ≤ lengthOf g (turnedStarts g p z s)
-    turned-length = filled-length g (turnedStarts g p z s) _ sound filled .0
+    -- the length is 1 to 1023
+    pub turned-length : (1 ≤ lengthOf g (turnedStarts g p z s)) × (lengthOf g (turnedStarts g p z s) ≤ 1023)
+    turned-length =
+        let w = filled-length g (turnedStarts g p z s) (p .length - z + work g (droppedBy z s)) sound filled in
+        (w .0, omega (arith, w .1, work-bound g (droppedBy z s) 8 (sound .short), sound .few))
 
     module _ (q : Pair) (same : (v : ℕ) → v < g .graph .nodes → q .start v ≡ startAt (turnedStarts g p z s) v) where
       -- the retimings after the gain fit the starts
@@ -178,3 +193,19 @@ module _ (g : Loop) (p : Pair) (z : ℕ) (s : List ℕ) (sound : Sound g) (legal
         -- with the retiming found the rotated pair is legal
         pub turned-legal : Legal g (fittedPair g q)
         turned-legal = fitted-legal g q sound turned-settles turned-bodied turned-unit-rule
+
+    -- ---- the rotation itself
+
+    pub rotated-settles : Settles g (turnedPair g p z s)
+    unfolding turnedPair
+    rotated-settles = turned-settles (turnedPair g p z s) (λ v l. refl)
+
+    -- rotation of a legal pair gives a legal pair
+    pub rotated-legal : Legal g (rotated g p z s)
+    unfolding rotated turnedPair
+    rotated-legal = turned-legal (turnedPair g p z s) (λ v l. refl) refl
+
+    -- whose starts the table holds
+    pub rotated-tabled : Tabled g (rotated g p z s) (turnedStarts g p z s)
+    unfolding rotated turnedPair
+    rotated-tabled = record { long = turned-long; is = λ v l. refl }
