@@ -1,16 +1,18 @@
 -- Rotation of a legal pair places every node, keeps the starts of the nodes that stay less z, keeps the unit rule and the edges' limits; with the retiming fitted afresh it is legal.
 -- Assumes nothing.
-use mathlib.Core.Path.{_≡_, refl, ap}
+use mathlib.Core.Path.{_≡_, refl, _∙_, ap}
 use mathlib.Core.Bool.{Bool, true, false}
 use mathlib.Core.Logic.{⊎-elim}
-use mathlib.Core.List.{List}
-use Prim.Native.Nat.{ℕ, _+_, _-_, _≤_, _<_}
+use mathlib.Core.List.{List, [], _∷_}
+use Prim.Native.Nat.{ℕ, suc, _+_, _-_, _≤_, _<_, suc-le-suc}
 use native.Mathlib.Omega.{arith}
 use native.Mathlib.Decide.{ℕ-discrete}
 use borrow.Author.Tests.{eqb-false, eq-eqb, le-leb, lt-ltb}
 use lib.ListN.{length, length-map}
 use Rattle.lists.specs.Pick.{pick-ind}
 use Rattle.lists.specs.Both.{both-and}
+use Rattle.lists.specs.Fold.{fold}
+use Rattle.lists.specs.Place.{set-view}
 use Rattle.lists.specs.Count.{count-le, count-some}
 use Rattle.legal.specs.Loop.{Loop, Pair, runsOn, latency, hold}
 use Rattle.legal.specs.Legal.{Legal, UnitRule, occupies, busy}
@@ -18,13 +20,14 @@ use Rattle.legal.specs.Systems.{lateness, Fits}
 use Rattle.legal.specs.Shape.{Sound, Bodied}
 use Rattle.legal.specs.Limits.{timed}
 use Rattle.legal.specs.Fitted.{Settles, fits-settles, fittedPair, fitted-legal}
-use Rattle.reach.specs.Weight.{tight}
-use Rattle.list_rule.specs.Rule.{startAt, uses, inUse, listRule, lengthOf}
-use Rattle.list_rule.specs.Kept.{Keeps, fill-keeps}
+use Rattle.reach.specs.Weight.{tight, weight}
+use Rattle.list_rule.specs.Order.{orderOf}
+use Rattle.list_rule.specs.Rule.{startAt, uses, inUse, place, fillStep, listRule, lengthOf}
+use Rattle.list_rule.specs.Kept.{Keeps, place-ind, fill-ind, fill-keeps, fill-length}
 use Rattle.list_rule.specs.Units.{Kept, uses-told, rule-units, in-use-busy}
 use Rattle.list_rule.specs.Edges.{InTime, rule-in-time}
-use Rattle.list_rule.specs.Ends.{work, length-ends}
-use Rattle.list_rule.specs.Filling.{Staffed, Within, Filled, filled-length}
+use Rattle.list_rule.specs.Ends.{work, work-bound, length-ends}
+use Rattle.list_rule.specs.Filling.{Staffed, Nodes, order-whole, Within, Filled, filled-length}
 use Rattle.list_rule.specs.Placed.{rule-places}
 use Rattle.list_rule.specs.Turned.{gainedBy, droppedBy, dropped-at, turns-or-stays, turned-over, tight-turns, stays-in-time, turned-ranked}
 
@@ -33,9 +36,38 @@ pub rule-keeps : (g : Loop) (r : ℕ → ℕ) (s : List ℕ) → Keeps s (listRu
 unfolding listRule
 rule-keeps g r s = fill-keeps g r _ 1023 1 s
 
+-- and what stands past the nodes
+module _ (g : Loop) (r : ℕ → ℕ) (w : ℕ) (past : g .graph .nodes ≤ w) where
+  fold-past : (before : List ℕ) (p : ℕ) (vs s : List ℕ) → Nodes g vs → startAt (fold (place g r before p) s vs) w ≡ startAt s w
+  unfolding fold
+  fold-past before p [] s h = refl
+  fold-past before p (v ∷ vs) s h =
+      let lv = h 0 (omega arith) in
+      fold-past before p vs (place g r before p s v) (λ i j. h (suc i) (suc-le-suc j))
+      ∙ place-ind g r (λ t. startAt t w ≡ startAt s w) before p s v refl (λ k.
+      ⊎-elim (λ q. absurd (omega (arith, q .0, lv))) (λ q. q) (set-view s v p w))
+
+  step-past : (order : List ℕ) → Nodes g order → (p : ℕ) (s : List ℕ) → startAt (fillStep g r order p s) w ≡ startAt s w
+  unfolding fillStep
+  step-past order h p s = fold-past s p order s h
+
+  pub rule-past : (s : List ℕ) → startAt (listRule g r s) w ≡ startAt s w
+  unfolding listRule
+  rule-past s =
+      let order = orderOf (weight g r) (g .graph .nodes) in
+      fill-ind g r (λ t. startAt t w ≡ startAt s w) order (λ p t k. step-past order (order-whole g (weight g r) .nodes) p t ∙ k) 1023 1 s refl
+
 -- the starts after a rotation by z steps of the pair with the starts s
 unfoldable pub turnedStarts : Loop → Pair → ℕ → List ℕ → List ℕ
 turnedStarts g p z s = listRule g (gainedBy p z) (droppedBy z s)
+
+-- the pair that they make, with the retimings after the gain
+unfoldable pub turnedPair : Loop → Pair → ℕ → List ℕ → Pair
+turnedPair g p z s = record { start = startAt (turnedStarts g p z s); length = lengthOf g (turnedStarts g p z s); retiming = gainedBy p z }
+
+-- and with the retiming fitted afresh
+unfoldable pub rotated : Loop → Pair → ℕ → List ℕ → Pair
+rotated g p z s = fittedPair g (turnedPair g p z s)
 
 -- a table of 64 places with the pair's starts
 pub record Tabled (g : Loop) (p : Pair) (s : List ℕ) : Type 0 where
@@ -53,6 +85,16 @@ module _ (g : Loop) (p : Pair) (z : ℕ) (s : List ℕ) (sound : Sound g) (legal
     long = omega (arith, length-map s (λ a. a - z), tabled .long, sound .few);
     ends = λ v l h. omega (arith, dropped v l, legal .body v l .ends);
   }
+
+  -- the table after the rotation is as long
+  pub turned-long : length (turnedStarts g p z s) ≡ 64
+  unfolding turnedStarts listRule droppedBy
+  turned-long = fill-length g (gainedBy p z) _ 1023 1 (droppedBy z s) ∙ length-map s (λ a. a - z) ∙ tabled .long
+
+  -- with 0 past the nodes where there was
+  pub turned-past : (v : ℕ) → g .graph .nodes ≤ v → startAt s v ≡ 0 → startAt (turnedStarts g p z s) v ≡ 0
+  unfolding turnedStarts
+  turned-past v h e = omega (arith, rule-past g (gainedBy p z) v h (droppedBy z s), dropped-at z s v)
 
   -- every node is placed
   pub turned-filled : Staffed g → 1 ≤ z → z < p .length → p .length ≤ 512 → Filled g (turnedStarts g p z s) (p .length - z + work g (droppedBy z s))
@@ -134,9 +176,11 @@ module _ (g : Loop) (p : Pair) (z : ℕ) (s : List ℕ) (sound : Sound g) (legal
     filled : Filled g (turnedStarts g p z s) (p .length - z + work g (droppedBy z s))
     filled = turned-filled staffed one below short
 
-    -- the length is at least 1
-    pub turned-length : 1 ≤ lengthOf g (turnedStarts g p z s)
-    turned-length = filled-length g (turnedStarts g p z s) _ sound filled .0
+    -- the length is 1 to 1023
+    pub turned-length : (1 ≤ lengthOf g (turnedStarts g p z s)) × (lengthOf g (turnedStarts g p z s) ≤ 1023)
+    turned-length =
+        let w = filled-length g (turnedStarts g p z s) (p .length - z + work g (droppedBy z s)) sound filled in
+        (w .0, omega (arith, w .1, work-bound g (droppedBy z s) 8 (sound .short), sound .few))
 
     module _ (q : Pair) (same : (v : ℕ) → v < g .graph .nodes → q .start v ≡ startAt (turnedStarts g p z s) v) where
       -- the retimings after the gain fit the starts
@@ -178,3 +222,19 @@ module _ (g : Loop) (p : Pair) (z : ℕ) (s : List ℕ) (sound : Sound g) (legal
         -- with the retiming found the rotated pair is legal
         pub turned-legal : Legal g (fittedPair g q)
         turned-legal = fitted-legal g q sound turned-settles turned-bodied turned-unit-rule
+
+    -- ---- the rotation itself
+
+    pub rotated-settles : Settles g (turnedPair g p z s)
+    unfolding turnedPair
+    rotated-settles = turned-settles (turnedPair g p z s) (λ v l. refl)
+
+    -- rotation of a legal pair gives a legal pair
+    pub rotated-legal : Legal g (rotated g p z s)
+    unfolding rotated turnedPair
+    rotated-legal = turned-legal (turnedPair g p z s) (λ v l. refl) refl
+
+    -- whose starts the table holds
+    pub rotated-tabled : Tabled g (rotated g p z s) (turnedStarts g p z s)
+    unfolding rotated turnedPair
+    rotated-tabled = record { long = turned-long; is = λ v l. refl }
