@@ -4,6 +4,8 @@ ghost use lib.ListN.{length};
 ghost use Rattle.answer.specs.Refused.{numberOf};
 ghost use Rattle.rsk_c.specs.Rewrite.{rewritten, rewrittenOut, rewrittenAnswer};
 ghost use Rattle.rsk_c.specs.Judge.{JudgeAnswered};
+ghost use Rattle.rsk_c.specs.List.{listedAnswer};
+ghost use Rattle.listing.specs.Lines.{listed, listedBuffer};
 use answer::Cycle;
 
 // The record read and written again; its size.
@@ -38,4 +40,21 @@ pub extern "C" fn rsk_judge(record: &[u8], answer: &mut [u32; 69]) -> u32
     let refusal = judged.refusal;
     let cycle = judged.cycle;
     answer::fill(answer, refusal, answer::numbers_of(0, 0, 0), cycle)
+}
+
+// The record's listing as text; its size.
+#[no_mangle]
+pub extern "C" fn rsk_list(record: &[u8], out: &mut [u8], answer: &mut [u32; 69]) -> u32
+    ensures { λ r. ⌜ r ≡ numberOf (listed (now («record» .entry)) (length (now (out .entry))) .refusal) ⌝ }
+    ensures { λ _. ⌜ now (out .exit) ≡ listedBuffer (now («record» .entry)) (now (out .entry)) ⌝ }
+    ensures { λ _. ⌜ now (answer .exit) ≡ listedAnswer (now («record» .entry)) (length (now (out .entry))) ⌝ }
+{
+    let listed = listing::list(record, out);
+    let refusal = listed.refusal;
+    answer::fill(
+        answer,
+        refusal,
+        answer::numbers_of(listed.size, 0, 0),
+        Cycle::none(),
+    )
 }
