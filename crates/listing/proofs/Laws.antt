@@ -7,12 +7,12 @@ use Prim.Native.Nat.{ℕ, _+_, _/_, _%_, _≤_, _<_, max}
 use native.Mathlib.Nat.{zero-add}
 use native.Mathlib.Numerals.{add-one}
 use native.Mathlib.Omega.{arith}
-use lib.Dec.{eqb}
+use lib.Dec.{eqb, ltb}
 use lib.ListN.{length, getD, take, length-append}
 use lib.Seq.{set-out, take-suc, take-all}
 use borrow.Author.Needs.{needs}
-use borrow.Author.Tests.{le-ltb, lt-ltb, eq-eqb, ne-eqb}
-use Rattle.lists.specs.Pick.{pick, pick-true, pick-false}
+use borrow.Author.Tests.{ltb-false, le-ltb, lt-ltb, eq-eqb, ne-eqb}
+use Rattle.lists.specs.Pick.{pick, pick-true, pick-false, pick-ind}
 use Rattle.lists.specs.Span.{span}
 use Rattle.lists.specs.Fold.{top}
 use Rattle.lists.specs.Sums.{top-none, top-last}
@@ -205,3 +205,10 @@ module _ (s out : List ℕ) (v : View) (t : Viewed s v) (m : List ℕ) (size : �
   fits last end h y =
       let enough = le-ltb (length out) (length (listingOf s)) (omega (arith, size-is, ap length nothing-put, length-append m out)) in
       (rw size-is (sym (pick-false _ _ _ enough)), y .is ∙ rw (nothing-put, view-listing s v t) (sym (pick-false _ _ _ enough)))
+
+-- what is listed is no longer than its room
+pub listed-within : (s : List ℕ) (room : ℕ) (r : Listed) → r ≡ listed s room → r .size ≤ room
+unfolding listed
+listed-within s room r h =
+    rw h
+    (pick-ind (λ (x : Listed). x .size ≤ room) (ltb room (length (listingOf s))) _ _ (λ l. omega arith) (λ l. ltb-false room (length (listingOf s)) l))

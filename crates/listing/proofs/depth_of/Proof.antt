@@ -1,12 +1,11 @@
+-- `listing::depth_of` meets its contract: the loop's invariant is the largest retiming so far.
+-- Assumes nothing.
 use mathlib.Core.Path.{_≡_}
 use Prim.Native.Nat.{_≤_, _-_}
 use native.Mathlib.Omega.{arith}
 use Rattle.listing.proofs.Laws.{tests, depthTo, depth-none, depth-more, depth-whole}
 use Rattle.listing.proofs.depth_of.Statement.{statement}
 use Rattle.listing.proofs.depth_of.Tie as tie
-use Rattle.listing.proofs.depth_of.Reads as reads
-use Rattle.listing.proofs.depth_of.Lts as lts
-use Rattle.listing.proofs.larger.Reads as larger-reads
 
 abbrev Inv-loop : tie.InvT-loop
 Inv-loop form nodes depth₀ i₀ depth i = (i ≤ nodes) × (depth ≡ depthTo form i)

@@ -1,11 +1,9 @@
+-- `listing::list` meets its contract: measured in no room, where nothing is put, then put where it fits.
+-- Assumes nothing.
 use borrow.Author.Needs.{needs}
 use Rattle.listing.proofs.Laws.{cramped, fits}
 use Rattle.listing.proofs.list.Statement.{statement}
 use Rattle.listing.proofs.list.Tie as tie
-use Rattle.listing.proofs.list.Reads as reads
-use Rattle.listing.proofs.list.Lts as lts
-use Rattle.listing.proofs.put_view.Reads as put-view-reads
-use Rattle.listing.proofs.view_of.Reads as view-of-reads
 
 view-of-requires : tie.Need-view-of-requires
 view-of-requires c κs = search needs

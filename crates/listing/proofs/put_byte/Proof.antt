@@ -1,9 +1,9 @@
+-- `listing::put_byte` meets its contract: a byte past the end is put nowhere, as `set` has it.
+-- Assumes nothing.
 use borrow.Author.Needs.{needs}
 use Rattle.listing.proofs.Laws.{no-room}
 use Rattle.listing.proofs.put_byte.Statement.{statement}
 use Rattle.listing.proofs.put_byte.Tie as tie
-use Rattle.listing.proofs.put_byte.Reads as reads
-use Rattle.listing.proofs.put_byte.Lts as lts
 
 add-result : tie.Need-add-result
 add-result c = search needs

@@ -1,14 +1,10 @@
+-- `listing::put_counts` meets its contract: the fields one after the other are the line.
+-- Assumes nothing.
 use borrow.Author.Needs.{needs}
 use Rattle.listing.specs.Text.{depthWord, floorWord}
 use Rattle.listing.proofs.Laws.{counts-put}
 use Rattle.listing.proofs.put_counts.Statement.{statement}
 use Rattle.listing.proofs.put_counts.Tie as tie
-use Rattle.listing.proofs.put_counts.Reads as reads
-use Rattle.listing.proofs.put_counts.Lts as lts
-use Rattle.listing.proofs.depth_of.Reads as depth-of-reads
-use Rattle.listing.proofs.put_field.Reads as put-field-reads
-use Rattle.listing.proofs.put_sizes.Reads as put-sizes-reads
-use Rattle.listing.proofs.put_verdict.Reads as put-verdict-reads
 
 depth-of-requires : tie.Need-depth-of-requires
 depth-of-requires c κs = search needs

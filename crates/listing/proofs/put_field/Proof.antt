@@ -1,11 +1,9 @@
+-- `listing::put_field` meets its contract: a word, then a number.
+-- Assumes nothing.
 use borrow.Author.Needs.{needs}
 use Rattle.writer.proofs.Laws.{both}
 use Rattle.listing.proofs.put_field.Statement.{statement}
 use Rattle.listing.proofs.put_field.Tie as tie
-use Rattle.listing.proofs.put_field.Reads as reads
-use Rattle.listing.proofs.put_field.Lts as lts
-use Rattle.listing.proofs.put_number.Reads as put-number-reads
-use Rattle.listing.proofs.put_word.Reads as put-word-reads
 
 put-word-requires : tie.Need-put-word-requires
 put-word-requires c κs = search needs

@@ -1,14 +1,11 @@
+-- `listing::put_form` meets its contract: the mark, the counts, the lines.
+-- Assumes nothing.
 use borrow.Author.Needs.{needs}
 use Rattle.writer.proofs.Laws.{both}
 use Rattle.listing.specs.Text.{markLine}
 use Rattle.listing.specs.Lines.{formLines}
 use Rattle.listing.proofs.put_form.Statement.{statement}
 use Rattle.listing.proofs.put_form.Tie as tie
-use Rattle.listing.proofs.put_form.Reads as reads
-use Rattle.listing.proofs.put_form.Lts as lts
-use Rattle.listing.proofs.put_counts.Reads as put-counts-reads
-use Rattle.listing.proofs.put_lines.Reads as put-lines-reads
-use Rattle.listing.proofs.put_word.Reads as put-word-reads
 
 slice-aggregate-put-word : tie.Need-slice-aggregate-put-word
 slice-aggregate-put-word c = search needs

@@ -1,13 +1,9 @@
+-- `listing::put_line` meets its contract: nodes were put where the place has moved on.
+-- Assumes nothing.
 use borrow.Author.Needs.{needs}
 use Rattle.listing.proofs.Laws.{idle-line, some-line}
 use Rattle.listing.proofs.put_line.Statement.{statement}
 use Rattle.listing.proofs.put_line.Tie as tie
-use Rattle.listing.proofs.put_line.Reads as reads
-use Rattle.listing.proofs.put_line.Lts as lts
-use Rattle.listing.proofs.put_byte.Reads as put-byte-reads
-use Rattle.listing.proofs.put_nodes.Reads as put-nodes-reads
-use Rattle.listing.proofs.put_number.Reads as put-number-reads
-use Rattle.listing.proofs.put_word.Reads as put-word-reads
 
 put-number-requires : tie.Need-put-number-requires
 put-number-requires c κs = search needs

@@ -1,4 +1,5 @@
-use mathlib.Core.Path.{_≡_}
+-- `listing::put_lines` meets its contract: the loop's invariant is that the first lines are laid.
+-- Assumes nothing.
 use Prim.Native.Nat.{_≤_, _+_, _*_, _-_}
 use native.Mathlib.Omega.{arith}
 use Rattle.writer.specs.Layout.{rows}
@@ -8,9 +9,6 @@ use Rattle.listing.specs.Lines.{stepLine}
 use Rattle.listing.proofs.Laws.{tests, rows-whole}
 use Rattle.listing.proofs.put_lines.Statement.{statement}
 use Rattle.listing.proofs.put_lines.Tie as tie
-use Rattle.listing.proofs.put_lines.Reads as reads
-use Rattle.listing.proofs.put_lines.Lts as lts
-use Rattle.listing.proofs.put_line.Reads as put-line-reads
 
 abbrev Inv-loop : tie.InvT-loop
 Inv-loop out₀ at form length next₀ i₀ out next i = (i ≤ length) × (next ≤ at + 517 * i) × Laid out₀ at (rows (λ k. stepLine form (k + 1)) i) out next

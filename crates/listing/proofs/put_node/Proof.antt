@@ -1,12 +1,9 @@
+-- `listing::put_node` meets its contract: nothing, or a space, a number and a retiming.
+-- Assumes nothing.
 use borrow.Author.Needs.{needs}
 use Rattle.listing.proofs.Laws.{node-elsewhere, node-here}
 use Rattle.listing.proofs.put_node.Statement.{statement}
 use Rattle.listing.proofs.put_node.Tie as tie
-use Rattle.listing.proofs.put_node.Reads as reads
-use Rattle.listing.proofs.put_node.Lts as lts
-use Rattle.listing.proofs.put_byte.Reads as put-byte-reads
-use Rattle.listing.proofs.put_number.Reads as put-number-reads
-use Rattle.listing.proofs.put_retiming.Reads as put-retiming-reads
 
 returns : tie.Need-returns
 returns c = (search needs, node-elsewhere _ _ _ _ _ _ (c .if1 .taken))

@@ -1,3 +1,5 @@
+-- `listing::put_nodes` meets its contract: the loop's invariant is that the first nodes of the step are laid.
+-- Assumes nothing.
 use Prim.Native.Nat.{_≤_, _+_, _*_, _-_}
 use native.Mathlib.Omega.{arith}
 use Rattle.writer.specs.Layout.{rows}
@@ -7,9 +9,6 @@ use Rattle.listing.specs.Lines.{nodeText}
 use Rattle.listing.proofs.Laws.{tests, node-more, nodes-whole}
 use Rattle.listing.proofs.put_nodes.Statement.{statement}
 use Rattle.listing.proofs.put_nodes.Tie as tie
-use Rattle.listing.proofs.put_nodes.Reads as reads
-use Rattle.listing.proofs.put_nodes.Lts as lts
-use Rattle.listing.proofs.put_node.Reads as put-node-reads
 
 abbrev Inv-loop : tie.InvT-loop
 Inv-loop out₀ at step form nodes next₀ i₀ out next i = (i ≤ nodes) × (next ≤ at + 8 * i) × Laid out₀ at (rows (nodeText form step) i) out next

@@ -1,11 +1,10 @@
+-- `listing::put_number` meets its contract: one digit, two or three.
+-- Assumes nothing.
+use native.Mathlib.Omega.{arith}
 use borrow.Author.Needs.{needs}
 use Rattle.listing.proofs.Laws.{one-digit, two-digits, three-digits}
 use Rattle.listing.proofs.put_number.Statement.{statement}
 use Rattle.listing.proofs.put_number.Tie as tie
-use Rattle.listing.proofs.put_number.Reads as reads
-use Rattle.listing.proofs.put_number.Lts as lts
-use Rattle.listing.proofs.digit.Reads as digit-reads
-use Rattle.listing.proofs.put_byte.Reads as put-byte-reads
 
 digit-requires : tie.Need-digit-requires
 digit-requires c κs = search needs
@@ -17,7 +16,7 @@ same-length : tie.Need-same-length
 same-length c = search needs
 
 returns : tie.Need-returns
-returns c = (search needs, one-digit _ _ _ _ _ _ (c .before .before .before .before .before .if1 .taken) (c .before .before .before .digit .ensures) (c .before .before .put-byte .ensures .1))
+returns c = (search needs, one-digit _ _ _ _ _ _ (omega arith) (c .before .before .before .digit .ensures) (c .before .before .put-byte .ensures .1))
 
 digit-requires-2 : tie.Need-digit-requires-2
 digit-requires-2 c κs = search needs
@@ -35,7 +34,7 @@ same-length-2 : tie.Need-same-length-2
 same-length-2 c = search needs
 
 returns-2 : tie.Need-returns-2
-returns-2 c = (search needs, two-digits _ _ _ _ _ _ _ _ _ (c .before .before .before .before .before .before .before .before .before .before .before .if1 .left) (c .before .before .before .before .before .before .before .before .before .before .if2 .taken) (c .before .before .before .before .before .before .before .before .digit2 .ensures) (c .before .before .before .digit3 .ensures) (c .before .before .before .before .before .before .before .put-byte2 .ensures .1) (c .before .before .put-byte3 .ensures .1))
+returns-2 c = (search needs, two-digits _ _ _ _ _ _ _ _ _ (omega arith) (omega arith) (c .before .before .before .before .before .before .before .before .digit2 .ensures) (c .before .before .before .digit3 .ensures) (c .before .before .before .before .before .before .before .put-byte2 .ensures .1) (c .before .before .put-byte3 .ensures .1))
 
 digit-requires-4 : tie.Need-digit-requires-4
 digit-requires-4 c κs = search needs
@@ -59,7 +58,7 @@ same-length-3 : tie.Need-same-length-3
 same-length-3 c = search needs
 
 returns-3 : tie.Need-returns-3
-returns-3 c = (search needs, three-digits _ _ _ _ _ _ _ _ _ _ _ _ (c .before .before .before .before .before .before .before .before .before .before .before .before .before .before .before .if2 .left) (c .before .before .before .before .before .before .before .before .before .before .before .before .before .digit4 .ensures) (c .before .before .before .before .before .before .before .before .digit5 .ensures) (c .before .before .before .digit6 .ensures) (c .before .before .before .before .before .before .before .before .before .before .before .before .put-byte4 .ensures .1) (c .before .before .before .before .before .before .before .put-byte5 .ensures .1) (c .before .before .put-byte6 .ensures .1))
+returns-3 c = (search needs, three-digits _ _ _ _ _ _ _ _ _ _ _ _ (omega arith) (c .before .before .before .before .before .before .before .before .before .before .before .before .before .digit4 .ensures) (c .before .before .before .before .before .before .before .before .digit5 .ensures) (c .before .before .before .digit6 .ensures) (c .before .before .before .before .before .before .before .before .before .before .before .before .put-byte4 .ensures .1) (c .before .before .before .before .before .before .before .put-byte5 .ensures .1) (c .before .before .put-byte6 .ensures .1))
 
 pub put-number-spec : {M : Type 1} → statement M
 put-number-spec =

@@ -1,11 +1,9 @@
+-- `listing::put_retiming` meets its contract: nothing, or "+" and a number.
+-- Assumes nothing.
 use borrow.Author.Needs.{needs}
 use Rattle.listing.proofs.Laws.{retiming-none, retiming-some}
 use Rattle.listing.proofs.put_retiming.Statement.{statement}
 use Rattle.listing.proofs.put_retiming.Tie as tie
-use Rattle.listing.proofs.put_retiming.Reads as reads
-use Rattle.listing.proofs.put_retiming.Lts as lts
-use Rattle.listing.proofs.put_byte.Reads as put-byte-reads
-use Rattle.listing.proofs.put_number.Reads as put-number-reads
 
 returns : tie.Need-returns
 returns c = (search needs, retiming-none _ _ _ (c .if1 .taken))

@@ -1,12 +1,11 @@
+-- `listing::put_sizes` meets its contract: three fields.
+-- Assumes nothing.
 use borrow.Author.Needs.{needs}
 use Rattle.writer.proofs.Laws.{both}
 use Rattle.listing.specs.Text.{nodesWord, edgesWord, lengthWord}
 use Rattle.listing.specs.Shown.{sizesText}
 use Rattle.listing.proofs.put_sizes.Statement.{statement}
 use Rattle.listing.proofs.put_sizes.Tie as tie
-use Rattle.listing.proofs.put_sizes.Reads as reads
-use Rattle.listing.proofs.put_sizes.Lts as lts
-use Rattle.listing.proofs.put_field.Reads as put-field-reads
 
 slice-aggregate-put-field : tie.Need-slice-aggregate-put-field
 slice-aggregate-put-field c = search needs

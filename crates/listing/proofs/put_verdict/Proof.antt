@@ -1,11 +1,10 @@
+-- `listing::put_verdict` meets its contract: one word or the other.
+-- Assumes nothing.
 use borrow.Author.Needs.{needs}
 use Rattle.listing.specs.Text.{shortestWord, openWord}
 use Rattle.listing.proofs.Laws.{shortest-put, open-put}
 use Rattle.listing.proofs.put_verdict.Statement.{statement}
 use Rattle.listing.proofs.put_verdict.Tie as tie
-use Rattle.listing.proofs.put_verdict.Reads as reads
-use Rattle.listing.proofs.put_verdict.Lts as lts
-use Rattle.listing.proofs.put_word.Reads as put-word-reads
 
 slice-aggregate-put-word : tie.Need-slice-aggregate-put-word
 slice-aggregate-put-word c = search needs

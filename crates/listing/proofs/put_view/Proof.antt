@@ -1,11 +1,9 @@
+-- `listing::put_view` meets its contract: a form, or a refusal's number.
+-- Assumes nothing.
 use borrow.Author.Needs.{needs}
 use Rattle.listing.proofs.Laws.{form-put, refused-put}
 use Rattle.listing.proofs.put_view.Statement.{statement}
 use Rattle.listing.proofs.put_view.Tie as tie
-use Rattle.listing.proofs.put_view.Reads as reads
-use Rattle.listing.proofs.put_view.Lts as lts
-use Rattle.listing.proofs.put_form.Reads as put-form-reads
-use Rattle.listing.proofs.put_refused.Reads as put-refused-reads
 
 put-form-requires : tie.Need-put-form-requires
 put-form-requires c κs = c .before .before .before .before .before .pre .shown (c .before .if1 .taken)

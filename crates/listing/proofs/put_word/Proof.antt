@@ -1,3 +1,5 @@
+-- `listing::put_word` meets its contract: the loop's invariant is that its first bytes are laid.
+-- Assumes nothing.
 use mathlib.Core.Path.{_≡_}
 use Prim.Native.Nat.{_≤_, _+_, _-_}
 use lib.ListN.{length, take}
@@ -6,9 +8,6 @@ use Rattle.writer.proofs.Laws.{nothing, same-long}
 use Rattle.listing.proofs.Laws.{tests, byte-more, word-whole}
 use Rattle.listing.proofs.put_word.Statement.{statement}
 use Rattle.listing.proofs.put_word.Tie as tie
-use Rattle.listing.proofs.put_word.Reads as reads
-use Rattle.listing.proofs.put_word.Lts as lts
-use Rattle.listing.proofs.put_byte.Reads as put-byte-reads
 
 abbrev Inv-loop : tie.InvT-loop
 Inv-loop out₀ at word next₀ i₀ out next i = (i ≤ length word) × (next ≡ at + i) × Laid out₀ at (take i word) out next

@@ -1,14 +1,10 @@
+-- `listing::view_of` meets its contract: an accepted record's numbers are small, and its floor is its loop's.
+-- Assumes nothing.
 use native.Mathlib.Omega.{arith}
 use borrow.Author.Needs.{needs}
 use Rattle.listing.proofs.Accepted.{refused-viewed, form-viewed}
 use Rattle.listing.proofs.view_of.Statement.{statement}
 use Rattle.listing.proofs.view_of.Tie as tie
-use Rattle.listing.proofs.view_of.Reads as reads
-use Rattle.listing.proofs.view_of.Lts as lts
-use Rattle.answer.proofs.Refusal.number.Reads as number-reads
-use Rattle.floor.proofs.floor.Reads as floor-reads
-use Rattle.judge.proofs.judge.Reads as judge-reads
-use Rattle.reader.proofs.read.Reads as read-reads
 
 judge-requires : tie.Need-judge-requires
 judge-requires c κs = search needs

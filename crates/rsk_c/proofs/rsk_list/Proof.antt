@@ -1,0 +1,32 @@
+-- `rsk_c::rsk_list` meets its contract: the list is that of the listing's answer.
+-- Assumes nothing.
+use borrow.Author.Needs.{needs}
+use Rattle.rsk_c.proofs.ListLaws.{list-answered}
+use Rattle.rsk_c.proofs.rsk_list.Statement.{statement}
+use Rattle.rsk_c.proofs.rsk_list.Tie as tie
+
+list-requires : tie.Need-list-requires
+list-requires c κs = search needs
+
+numbers-of-requires : tie.Need-numbers-of-requires
+numbers-of-requires c κs = search needs
+
+none-requires : tie.Need-none-requires
+none-requires c κs = search needs
+
+fill-requires : tie.Need-fill-requires
+fill-requires c κs = search needs
+
+same-length : tie.Need-same-length
+same-length c = search needs
+
+returns : tie.Need-returns
+returns c =
+    let l = c .before .before .before .before .before .before in
+    let a = list-answered _ _ _ _ _ _ _ (l .list .ensures .0) (c .before .before .numbers-of .ensures) (c .before .none .ensures) (c .fill .ensures .0) (c .fill .ensures .1) in
+    (a .0, (l .list .ensures .1, a .1))
+
+pub rsk-list-spec : {M : Type 1} → statement M
+rsk-list-spec =
+    tie.close
+    (tie.spec list-requires numbers-of-requires none-requires fill-requires same-length returns)
