@@ -52,6 +52,12 @@ fn ask(what: u8, record: &[u8], out: &mut [u8], answer: &mut [u32; 69]) {
         2 => {
             rsk_c::rsk_fit(record, out, answer);
         }
+        3 => {
+            rsk_c::rsk_floor(record, answer);
+        }
+        4 => {
+            rsk_c::rsk_list(record, out, answer);
+        }
         _ => {}
     }
 }
