@@ -1,4 +1,4 @@
--- What the proofs of the list rule share: tests, and starts as numbers.
+-- What the proofs of the list rule share: tests, starts as numbers, and counts.
 -- Assumes nothing.
 use mathlib.Core.Path.{_≡_, refl, sym, ap, _∙_}
 use mathlib.Core.Bool.{Bool, true, false, _&&_}
@@ -61,11 +61,11 @@ adds-none b e = pick-false b 1 0 e
 pub adds-small : (b : Bool) → pick {A = ℕ} b 1 0 ≤ 1
 adds-small b = pick-ind (λ n. n ≤ 1) b 1 0 (λ e. omega arith) (λ e. omega arith)
 
-pub count-more : (f : ℕ → Bool) (v : ℕ) → count f (span 0 (v + 1)) ≡ count f (span 0 v) + pick (f v) 1 0
-count-more f v = rw (add-one, count-snoc, zero-add)
-
 count-suc : (f : ℕ → Bool) (v : ℕ) → count f (span 0 (suc v)) ≡ count f (span 0 v) + pick (f v) 1 0
 count-suc f v = rw (count-snoc, zero-add)
+
+pub count-more : (f : ℕ → Bool) (v : ℕ) → count f (span 0 (v + 1)) ≡ count f (span 0 v) + pick (f v) 1 0
+count-more f v = rw add-one (count-suc f v)
 
 count-length : {A : Type 0} (f : A → Bool) (xs : List A) → count f xs ≤ length xs
 unfolding count

@@ -139,7 +139,7 @@ used-put f s v p held busy after v-in v-len none is-held u r = record {
 }
   where
     others : (c q u : ℕ) → u ≢ v → uses (loopOf f) (set s v p) c q u ≡ uses (loopOf f) s c q u
-    others c q u ne = rw (uses-holds, uses-holds, getD-set-other s v u p 0 ne)
+    others c q u ne = rw (uses-holds f (set s v p) c q u, uses-holds f s c q u, getD-set-other s v u p 0 ne)
 
     before : (c q : ℕ) → uses (loopOf f) s c q v ≡ false
     before c q = uses-holds f s c q v ∙ not-placed _ _ c q _ none

@@ -1,4 +1,4 @@
--- The tables of the list rule: starts as numbers, the nodes in order, units in use by step and class, edges that a node waits for.
+-- The tables of the list rule: starts as numbers, units in use by step and class, edges that a node waits for.
 -- Assumes nothing.
 use mathlib.Core.Path.{_≡_}
 use mathlib.Core.Bool.{Bool, _&&_, _||_}
@@ -15,22 +15,23 @@ use Rattle.form.specs.Places.{startOf, latencyOf, retimingOf}
 use Rattle.legal.specs.Loop.{loopOf}
 use Rattle.list_rule.specs.Rule.{uses, blocks}
 
+-- the numbers of the steps in a table of starts
 unfoldable pub numbersOf : List BodyStep → List ℕ
 numbersOf s = map (λ b. b .0) s
 
+-- the starts of a form
 unfoldable pub startsOf : Form → List ℕ
 startsOf f = numbersOf (f .start)
 
+-- the weights in a table
 abbrev pub weightOf : List ℕ → ℕ → ℕ
 weightOf weight v = getD weight v 0
 
--- nodes placed before the list rule end in the longest body
+-- a node that is placed before the list rule ends in the longest body; with start 0 it does in any case
 pub record Ends (f : Form) : Type 0 where
   pub at : (v : ℕ) → v < f .nodes → startOf f v + latencyOf f v ≤ 513
 
--- ---- units in use
-
--- Step q and class c have the place q * 4 + c.
+-- ---- units in use: step q and class c have the place q * 4 + c
 
 -- an operation on class k from step s on, 0 being not placed, holds its unit, one of class c, in step q; in step past no more
 unfoldable pub holdsAt : ℕ → ℕ → ℕ → ℕ → ℕ → Bool
@@ -56,6 +57,7 @@ blocksAt d tail head s t p = eqb (d + tail) head && (eqb s 0 || ltb p (s + t))
 unfoldable pub waitsFor : Form → List ℕ → ℕ → ℕ → ℕ → ℕ
 waitsFor f s p n v = count (λ e. eqb (getD (f .to) e 0) v && blocks (loopOf f) (retimingOf f) s p e) (span 0 n)
 
+-- a table of them
 pub record Waits (f : Form) (s : List ℕ) (p n : ℕ) (waits : List ℕ) : Type 0 where
   pub size : length waits ≡ 64
   pub at : (v : ℕ) → v < 64 → getD waits v 0 ≡ waitsFor f s p n v

@@ -1,9 +1,9 @@
 -- `list_rule::blocked` meets its contract.
 -- Assumes nothing.
+use borrow.Author.Needs.{needs}
 use Rattle.lists.specs.Pick.{pick}
 use Rattle.list_rule.specs.Tables.{blocksAt}
 use Rattle.list_rule.proofs.Laws.{tests}
-use borrow.Author.Needs.{needs}
 use Rattle.list_rule.proofs.blocked.Statement.{statement}
 use Rattle.list_rule.proofs.blocked.Tie as tie
 

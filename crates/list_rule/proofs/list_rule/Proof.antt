@@ -7,6 +7,7 @@ use native.Mathlib.Omega.{arith}
 use lib.ListN.{getD}
 use borrow.Author.Needs.{needs}
 use borrow.Author.Tests.{eqb-true, eqb-false, not-true, not-false}
+use Rattle.form.specs.Ranges.{WellFormed}
 use Rattle.list_rule.specs.Tables.{numbersOf}
 use Rattle.list_rule.proofs.Laws.{tests}
 use Rattle.list_rule.proofs.Units.{Board, board-of, used-fits}
@@ -60,11 +61,20 @@ nodes-holds c =
     (omega arith, trying-none _ _ _ _ (s .steps .inv .2) (omega arith) _ (c .before .before .unplaced .ensures) (c .before .if1 .left) _ (ordered (s .before)))
 
 -- the node tried is one of the form, and its class one of the board
+well : (c : tie.In-nodes Inv-loop μ-loop Inv-nodes μ-nodes Inv-steps μ-steps) → WellFormed (c .before .before .before .before .before .before .before .before .before .before .args .t1)
+well c = c .before .before .before .before .before .before .before .before .before .before .pre .0 .0
+
+sorted : (c : tie.In-nodes Inv-loop μ-loop Inv-nodes μ-nodes Inv-steps μ-steps) → Ordered (c .before .before .before .before .before .before .before .before .before .before .args .t1) (c .before .before .before .before .before .before .before .before .before .order-of .result)
+sorted c = ordered (c .before .before .before .before .before .before .before)
+
 node-in : (c : tie.In-nodes Inv-loop μ-loop Inv-nodes μ-nodes Inv-steps μ-steps) → getD (c .before .before .before .before .before .before .before .before .before .order-of .result) (c .before .nodes .i) 0 < c .before .before .before .before .before .before .before .before .before .before .args .t1 .nodes
-node-in c = ordered-in _ _ (c .before .before .before .before .before .before .before .before .before .before .pre .0 .0) (ordered (c .before .before .before .before .before .before .before)) _ (c .nodes-test .taken)
+node-in c = ordered-in _ _ (well c) (sorted c) _ (c .nodes-test .taken)
+
+node-place : (c : tie.In-nodes Inv-loop μ-loop Inv-nodes μ-nodes Inv-steps μ-steps) → getD (c .before .before .before .before .before .before .before .before .before .order-of .result) (c .before .nodes .i) 0 < 64
+node-place c = omega (arith, node-in c, well c .nodes .1)
 
 board : (c : tie.In-nodes Inv-loop μ-loop Inv-nodes μ-nodes Inv-steps μ-steps) → Board (c .before .before .before .before .before .before .before .before .before .before .args .t1) (getD (c .before .before .before .before .before .before .before .before .before .order-of .result) (c .before .nodes .i) 0)
-board c = board-of _ (c .before .before .before .before .before .before .before .before .before .before .pre .0 .0) _ (node-in c)
+board c = board-of _ (well c) _ (node-in c)
 
 cast-v : tie.Need-cast-v Inv-loop μ-loop Inv-nodes μ-nodes Inv-steps μ-steps
 cast-v c = search needs
@@ -73,20 +83,20 @@ array-read-v : tie.Need-array-read-v Inv-loop μ-loop Inv-nodes μ-nodes Inv-ste
 array-read-v c = search needs
 
 cast-v-2 : tie.Need-cast-v-2 Inv-loop μ-loop Inv-nodes μ-nodes Inv-steps μ-steps
-cast-v-2 c = omega (arith, node-in (c), c .before .before .before .before .before .before .before .before .before .before .pre .0 .0 .nodes .1)
+cast-v-2 c = omega (arith, node-place c)
 
 mul-if2 : tie.Need-mul-if2 Inv-loop μ-loop Inv-nodes μ-nodes Inv-steps μ-steps
-mul-if2 c = omega (arith, node-in (c), c .before .before .before .before .before .before .before .before .before .before .pre .0 .0 .nodes .1)
+mul-if2 c = omega (arith, node-place c)
 
 element-copy-out-if2 :
     tie.Need-element-copy-out-if2 Inv-loop μ-loop Inv-nodes μ-nodes Inv-steps μ-steps
-element-copy-out-if2 c = omega (arith, node-in (c), c .before .before .before .before .before .before .before .before .before .before .pre .0 .0 .nodes .1)
+element-copy-out-if2 c = omega (arith, node-place c)
 
 mul-if3 : tie.Need-mul-if3 Inv-loop μ-loop Inv-nodes μ-nodes Inv-steps μ-steps
-mul-if3 c = omega (arith, node-in (c .before), c .before .before .before .before .before .before .before .before .before .before .before .pre .0 .0 .nodes .1)
+mul-if3 c = omega (arith, node-place (c .before))
 
 array-read-if3 : tie.Need-array-read-if3 Inv-loop μ-loop Inv-nodes μ-nodes Inv-steps μ-steps
-array-read-if3 c = omega (arith, node-in (c .before), c .before .before .before .before .before .before .before .before .before .before .before .pre .0 .0 .nodes .1)
+array-read-if3 c = omega (arith, node-place (c .before))
 
 add-i : tie.Need-add-i Inv-loop μ-loop Inv-nodes μ-nodes Inv-steps μ-steps
 add-i c = search needs
@@ -97,22 +107,20 @@ nodes-less c = search needs
 nodes-again : tie.Need-nodes-again Inv-loop μ-loop Inv-nodes μ-nodes Inv-steps μ-steps
 nodes-again c =
     let n = c .before in
-    let t = n .before .nodes .inv .1 in
-    let o = ordered (n .before .before .before .before .before .before .before) in
-    let w = n .before .before .before .before .before .before .before .before .before .before .pre .0 .0 in (
+    let t = n .before .nodes .inv .1 in (
       omega arith,
       ⊎-elim
-          (λ k. trying-placed _ _ _ _ _ _ _ t o w (n .nodes-test .taken) (k .taken))
-          (λ k. trying-waits _ _ _ _ _ _ _ t o w (n .nodes-test .taken) _ (n .before .before .waiting .ensures) (eqb-false _ _ (not-true _ (k .1 .taken))))
+          (λ k. trying-placed _ _ _ _ _ _ _ t (sorted n) (well n) (n .nodes-test .taken) (k .taken))
+          (λ k. trying-waits _ _ _ _ _ _ _ t (sorted n) (well n) (n .nodes-test .taken) _ (n .before .before .waiting .ensures) (eqb-false _ _ (not-true _ (k .1 .taken))))
           (c .if2 .came),
     )
 
 mul-number : tie.Need-mul-number Inv-loop μ-loop Inv-nodes μ-nodes Inv-steps μ-steps
-mul-number c = omega (arith, node-in (c .before .before), c .before .before .before .before .before .before .before .before .before .before .before .before .pre .0 .0 .nodes .1)
+mul-number c = omega (arith, node-place (c .before .before))
 
 element-copy-out-number :
     tie.Need-element-copy-out-number Inv-loop μ-loop Inv-nodes μ-nodes Inv-steps μ-steps
-element-copy-out-number c = omega (arith, node-in (c .before .before), c .before .before .before .before .before .before .before .before .before .before .before .before .pre .0 .0 .nodes .1)
+element-copy-out-number c = omega (arith, node-place (c .before .before))
 
 cast-class : tie.Need-cast-class Inv-loop μ-loop Inv-nodes μ-nodes Inv-steps μ-steps
 cast-class c = omega (arith, board (c .before .before) .class-in)
@@ -151,10 +159,8 @@ nodes-again-2 c =
     let l = c .before .before .before .before in
     let n = c .before .before .before .before .before .before .before .before .before in
     let t = n .before .nodes .inv .1 in
-    let o = ordered (n .before .before .before .before .before .before .before) in
-    let w = n .before .before .before .before .before .before .before .before .before .before .pre .0 .0 in
     let full = searching-full _ _ _ _ _ (t .used) (board n .class-in) _ _ (l .loop .inv .3) (c .before .before .before .loop-test .taken) (omega (arith, c .before .before .before .loop-test .taken, l .loop .inv .2)) _ (c .before .before .spot .ensures .0) (omega (arith, c .if4 .taken)) in
-    rw (l .loop .inv .0) (omega (arith, n .nodes-test .taken), trying-full _ _ _ _ _ _ _ t o w (n .nodes-test .taken) _ (n .before .before .waiting .ensures) full)
+    rw (l .loop .inv .0) (omega (arith, n .nodes-test .taken), trying-full _ _ _ _ _ _ _ t (sorted n) (well n) (n .nodes-test .taken) _ (n .before .before .waiting .ensures) full)
 
 add-q : tie.Need-add-q Inv-loop μ-loop Inv-nodes μ-nodes Inv-steps μ-steps
 add-q c = omega (arith, c .before .before .before .loop-test .taken, c .before .before .before .before .loop .inv .2)
@@ -174,18 +180,18 @@ loop-again c =
     )
 
 mul-start : tie.Need-mul-start Inv-loop μ-loop Inv-nodes μ-nodes Inv-steps μ-steps
-mul-start c = omega (arith, node-in (c .before .before .before .before .before .before), c .before .before .before .before .before .before .before .before .before .before .before .before .before .before .before .before .pre .0 .0 .nodes .1)
+mul-start c = omega (arith, node-place (c .before .before .before .before .before .before))
 
 array-set-from-start :
     tie.Need-array-set-from-start Inv-loop μ-loop Inv-nodes μ-nodes Inv-steps μ-steps
-array-set-from-start c = omega (arith, node-in (c .before .before .before .before .before .before), c .before .before .before .before .before .before .before .before .before .before .before .before .before .before .before .before .pre .0 .0 .nodes .1)
+array-set-from-start c = omega (arith, node-place (c .before .before .before .before .before .before))
 
 raise-requires : tie.Need-raise-requires Inv-loop μ-loop Inv-nodes μ-nodes Inv-steps μ-steps
 raise-requires c κs =
     let n = c .before .before .before .before .before .before .before in
     let u = n .before .nodes .inv .1 .used in (
       (u .size, board n .class-in, omega (arith, c .before .before .loop .inv .2)),
-      λ q h. used-fits _ _ _ _ (n .before .before .before .before .before .before .before .before .before .before .pre .0 .0 .nodes .1) u _ q (board n .class-in) h,
+      λ q h. used-fits _ _ _ _ (well n .nodes .1) u _ q (board n .class-in) h,
     )
 
 add-i-3 : tie.Need-add-i-3 Inv-loop μ-loop Inv-nodes μ-nodes Inv-steps μ-steps
@@ -199,10 +205,8 @@ nodes-again-3 c =
     let l = c .before .before .before in
     let n = c .before .before .before .before .before .before .before .before in
     let t = n .before .nodes .inv .1 in
-    let o = ordered (n .before .before .before .before .before .before .before) in
-    let w = n .before .before .before .before .before .before .before .before .before .before .pre .0 .0 in
     let found = searching-end _ _ _ _ _ _ (c .before .before .loop-test .left) (l .loop .inv .3) in
-    rw (l .loop .inv .0) (omega (arith, n .nodes-test .taken), trying-put _ _ _ _ _ _ _ t o w (n .nodes-test .taken) _ (n .before .before .waiting .ensures) _ _ (c .before .before .before .before .hold-of .ensures) (c .before .before .before .before .before .before .before .if2 .left) (eqb-true _ _ (not-false _ (c .before .before .before .before .before .before .if3 .left))) found (c .raise .ensures))
+    rw (l .loop .inv .0) (omega (arith, n .nodes-test .taken), trying-put _ _ _ _ _ _ _ t (sorted n) (well n) (n .nodes-test .taken) _ (n .before .before .waiting .ensures) _ _ (c .before .before .before .before .hold-of .ensures) (c .before .before .before .before .before .before .before .if2 .left) (eqb-true _ _ (not-false _ (c .before .before .before .before .before .before .if3 .left))) found (c .raise .ensures))
 
 add-p : tie.Need-add-p Inv-loop μ-loop Inv-nodes μ-nodes Inv-steps μ-steps
 add-p c = search needs
