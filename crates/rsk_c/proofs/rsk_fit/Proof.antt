@@ -4,11 +4,6 @@ use Rattle.rsk_c.proofs.Filled.{filled}
 use borrow.Author.Needs.{needs}
 use Rattle.rsk_c.proofs.rsk_fit.Statement.{statement}
 use Rattle.rsk_c.proofs.rsk_fit.Tie as tie
-use Rattle.rsk_c.proofs.rsk_fit.Reads as reads
-use Rattle.rsk_c.proofs.rsk_fit.Lts as lts
-use Rattle.answer.proofs.fill.Reads as fill-reads
-use Rattle.answer.proofs.numbers_of.Reads as numbers-of-reads
-use Rattle.fit.proofs.fit.Reads as fit-reads
 
 fit-requires : tie.Need-fit-requires
 fit-requires c κs = search needs
