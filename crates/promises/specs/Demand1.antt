@@ -153,7 +153,7 @@ unfolding listed listedBuffer pick fine
 list-refused s out e = go (ltb (length out) (length (listingOf s))) e
   where
     go : (b : Bool)
-        → fine (pick b (record { refusal = refusal.Room 0; size = 0 }) (record { refusal = refusal.None; size = length (listingOf s) }) .refusal) ≡ false
+        → fine (pick {A = Listed} b (record { refusal = refusal.Room 0; size = 0 }) (record { refusal = refusal.None; size = length (listingOf s) }) .refusal) ≡ false
         → pick b out (lib.Seq.sets out 0 (listingOf s)) ≡ out
     go true e = refl
     go false e = absurd (true≢false e)
