@@ -162,13 +162,16 @@ counts-text : (f : Form)
 unfolding sizesText countsLine
 counts-text f = simp append-assoc
 
+verdict-text : (f : Form) (floor : ℕ) → Shown f floor → pick (eqb (f .length) floor) shortestWord openWord ≡ verdict f
+unfolding verdict
+verdict-text f floor s = rw (s .is)
+
 pub counts-put : (f : Form) (l : List ℕ) (at : ℕ) (m o p r : List ℕ) (e g h k floor depth : ℕ) → Shown f floor → depth ≡ depthOf f → Laid l at (sizesText f) m e
     → Laid m e (depthWord ++ decimal depth) o g → Laid o g (floorWord ++ decimal floor) p h
     → Laid p h (pick (eqb (f .length) floor) shortestWord openWord ++ newline) r k → Laid l at (countsLine f) r k
-unfolding verdict
 counts-put f l at m o p r e g h k floor depth s d x y z w =
     rw (counts-text f) at
-    (both l at (sizesText f) _ m r e k x (rw (d, s .is) at (both m e (depthWord ++ decimal depth) _ o r g k y (both o g (floorWord ++ decimal floor) _ p r h k z w))))
+    (both l at (sizesText f) _ m r e k x (rw (verdict-text f floor s, d, s .is) at (both m e (depthWord ++ decimal depth) _ o r g k y (both o g (floorWord ++ decimal floor) _ p r h k z w))))
 
 -- ---- the whole listing
 
