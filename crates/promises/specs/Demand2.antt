@@ -42,7 +42,20 @@ use Rattle.fit.specs.Laws as fitting
 use Rattle.floor.specs.declared.Part.the-variants as part
 use Rattle.floor.specs.Parts.{latencyPart, unitsPart, cyclePart, floorLength}
 use Rattle.floor.specs.Floor.{partOf}
-use Rattle.floor.specs.Bounds.{floor-bound}
+use Prim.Native.Nat.{_*_}
+use Rattle.lists.specs.Fold.{sumOf}
+use Rattle.system.specs.Graph.{Cycle, Joined}
+use Rattle.system.specs.System.{System, Solves, LosingWalk}
+use Rattle.system.specs.Rounds.{settledOf}
+use Rattle.system.specs.Laws as settling
+use Rattle.system.specs.Walks.{sound}
+use Rattle.legal.specs.Shape.{Bodied}
+use Rattle.legal.specs.Knots.{knot-impossible}
+use Rattle.legal.specs.Fitted.{depth, Settles, depth-bound}
+use Rattle.legal.specs.Paced.{latencies}
+use Rattle.floor.specs.Bounds.{latency-bound, cycle-bound, floor-bound}
+use Rattle.floor.specs.Busy.{units-bound}
+use Rattle.floor.specs.Least.{cycle-paced, cycle-least, acyclic-one}
 use Rattle.floor.specs.Named.{Attains, named}
 
 -- reading what the writer wrote gives the form on its used places, and 0 elsewhere
@@ -143,7 +156,51 @@ module _ (f : Form) (w : WellFormed f) where
 pub cycle-unfit : (g : Loop) (p : Pair) (es : List ℕ) → Impossible g p es → (r : ℕ → ℕ) → Fits g p r → ⊥
 cycle-unfit = impossible-unfit
 
+-- every knot is such a cycle, whatever the starts
+pub knot-unfit : (g : Loop) (p : Pair) → Sound g → Bodied g p → (es : List ℕ) → Knot g es → Impossible g p es
+knot-unfit g p = knot-impossible g p
+
+-- the depth of a retiming that is given never exceeds 63
+pub fitted-shallow : (g : Loop) (p : Pair) → Sound g → Settles g p → depth g p ≤ 63
+fitted-shallow = depth-bound
+
+-- ---- the system behind knots, fits and the floor
+
+-- it settles exactly where it has a solution, and then its values are the least one
+pub settled-solves : (s : System) → settledOf s .settled ≡ true → Solves s (settling.settledAt s)
+settled-solves = settling.settled-solves
+
+pub settled-least : (s : System) (y : ℕ → ℕ) → Solves s y → (v : ℕ) → settling.settledAt s v ≤ y v
+settled-least = settling.settled-least
+
+pub solved-settles : (s : System) → Joined (s .graph) → 1 ≤ s .graph .nodes → s .graph .nodes ≤ 64 → (y : ℕ → ℕ) → Solves s y → settledOf s .settled ≡ true
+solved-settles = settling.solved-settles
+
+-- no closed walk of a system with a solution costs more than it gains
+pub solved-sound : (s : System) (y : ℕ → ℕ) (es : List ℕ) → Solves s y → LosingWalk s es → ⊥
+solved-sound = sound
+
 -- ---- the floor
+
+-- each part by itself is a bound
+pub latency-below : (g : Loop) (p : Pair) → Sound g → Legal g p → latencyPart g ≤ p .length
+latency-below = latency-bound
+
+pub units-below : (g : Loop) (p : Pair) (c : ℕ) → Sound g → Legal g p → c < g .classes → unitsPart g c ≤ p .length
+units-below = units-bound
+
+pub cycle-below : (g : Loop) (p : Pair) → Sound g → Legal g p → cyclePart g ≤ p .length
+cycle-below = cycle-bound
+
+-- part c is the least length at which no cycle has a latency sum above length times delay sum; 1 if acyclic
+pub cycle-holds : (g : Loop) → Sound g → Free g → (es : List ℕ) → Cycle (g .graph) es → latencies g es ≤ cyclePart g * sumOf (g .delay) es
+cycle-holds = cycle-paced
+
+pub cycle-minimal : (g : Loop) → Sound g → (l : ℕ) → 1 ≤ l → ((es : List ℕ) → Cycle (g .graph) es → latencies g es ≤ l * sumOf (g .delay) es) → cyclePart g ≤ l
+cycle-minimal = cycle-least
+
+pub cycle-none : (g : Loop) → Sound g → ((es : List ℕ) → Cycle (g .graph) es → ⊥) → cyclePart g ≡ 1
+cycle-none = acyclic-one
 
 -- no legal pair is shorter
 pub floor-below : (g : Loop) (p : Pair) → Sound g → Legal g p → floorLength g ≤ p .length
