@@ -33,7 +33,7 @@ use Rattle.floor.specs.declared.Part.{Part}
 use Rattle.floor.specs.declared.Part.the-variants as part
 use Rattle.floor.specs.declared.Floored.{Floored}
 use Rattle.floor.specs.Parts.{latencyPart, unitsParts, cyclePart, floorLength}
-use Rattle.floor.specs.Least.{enough, cycle-one, cycle-512}
+use Rattle.floor.specs.Least.{enough, short-less, cycle-one, cycle-512}
 use Rattle.floor.specs.Tables.{Worked, mostOf, Measured}
 use Rattle.floor.specs.Floor.{partNumber, partOf, floorRefusal, FloorCycle, FormFloored, floorRecord, RecordFloored}
 use Rattle.floor.specs.Named.{Attains, latency, units, cycle-named, cycle-attained, named-is, cycle-two, floor-short}
@@ -78,9 +78,9 @@ none-fine : fine refusal.None ≡ true
 unfolding fine
 none-fine = refl
 
--- a length below the floor that is not enough
+-- no length below the floor is enough, and there is one
 abbrev pub Below : Form → ℕ → Type 0
-Below f floor = (2 ≤ floor) × (floor - 1 ≤ 512) × (enough (loopOf f) (floor - 1) ≡ false)
+Below f floor = (2 ≤ floor) × (floor ≤ 513) × ((l : ℕ) → l < floor → enough (loopOf f) l ≡ false)
 
 -- an answer that no cycle stands beside
 alone-cycle : (g : Loop) (r : Floored) → numberOf (r .refusal) ≢ 12 → partNumber (r .part) ≢ 3 → r .cycle ≡ noCycle → FloorCycle g r
@@ -122,14 +122,15 @@ module _ (f : Form) (free : knotted (loopOf f) ≡ false) where
         filled = breaks .1;
       })
 
-  -- there is one where (c) attains it
+  -- so it is where (c) attains it
   pub below-short : WellFormed f → (floor : ℕ) → Attains (loopOf f) part.Cycle → floor ≡ floorLength (loopOf f)
       → Below f floor
-  below-short w floor a is = (
-    omega (arith, cycle-two (loopOf f) (sound-form f w) (named-is (loopOf f) part.Cycle a)),
-    omega (arith, cycle-attained (loopOf f) a, cycle-512 (loopOf f) (sound-form f w) (unknotted-free (loopOf f) free)),
-    rw is (floor-short (loopOf f) (sound-form f w) (named-is (loopOf f) part.Cycle a)),
-  )
+  below-short w floor a is =
+      let short : enough (loopOf f) (floor - 1) ≡ false = rw is (floor-short (loopOf f) (sound-form f w) (named-is (loopOf f) part.Cycle a)) in (
+        omega (arith, cycle-two (loopOf f) (sound-form f w) (named-is (loopOf f) part.Cycle a)),
+        omega (arith, cycle-attained (loopOf f) a, cycle-512 (loopOf f) (sound-form f w) (unknotted-free (loopOf f) free)),
+        λ l h. short-less (loopOf f) (sound-form f w) l (floor - 1) (omega arith) short,
+      )
 
 -- with a knot
 pub floored-knot : (f : Form) (c : Cycle) → KnotFound (loopOf f) c → 0 < c .count → FormFloored f (record { refusal = refusal.Knot; floor = 0; part = part.None; cycle = c })

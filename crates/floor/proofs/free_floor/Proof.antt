@@ -76,7 +76,7 @@ breaking-cycle-requires : tie.Need-breaking-cycle-requires
 breaking-cycle-requires c κs =
     let s = c .before .before .before .before .before .before .before .before .before .before in
     let b = below c in
-    (s .pre .0, (c .before .before .before .before .before .before .before .before .before .costs-of .ensures, (b .1, b .2)))
+    (s .pre .0, (c .before .before .before .before .before .before .before .before .before .costs-of .ensures, (omega arith, b .2 _ (omega arith))))
 
 returns-3 : tie.Need-returns-3
 returns-3 c =
