@@ -2,3 +2,4 @@ pub mod Pairs
 pub mod Rotation
 pub mod Search
 pub mod Worked
+pub mod FirstLaws

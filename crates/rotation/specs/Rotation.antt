@@ -12,7 +12,8 @@ use Rattle.list_rule.specs.Rule.{startAt, lengthOf}
 use Rattle.list_rule.specs.FirstLegal.{firstStarts}
 use Rattle.list_rule.specs.Turned.{gainedBy}
 use Rattle.list_rule.specs.TurnedLegal.{turnedStarts}
-use Rattle.rotation.specs.Pairs.{startsOf, withPair}
+use Rattle.list_rule.specs.Tables.{startsOf}
+use Rattle.rotation.specs.Pairs.{withPair}
 
 -- the list rule with all retimings 0
 unfoldable pub firstForm : Form → Form
