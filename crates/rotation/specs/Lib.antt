@@ -3,3 +3,4 @@ pub mod Rotation
 pub mod Search
 pub mod Worked
 pub mod FirstLaws
+pub mod Scheduling

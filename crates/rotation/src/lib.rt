@@ -2,6 +2,7 @@
 ghost use mathlib.Core.Bool.{false};
 ghost use mathlib.Core.Path.{_≡_};
 ghost use Prim.Native.Nat.{ℕ, _≤_, _<_};
+ghost use Rattle.lists.specs.Pick.{pick};
 ghost use Rattle.form.specs.Ranges.{WellFormed};
 ghost use Rattle.legal.specs.Loop.{loopOf};
 ghost use Rattle.legal.specs.Systems.{knotted};
@@ -9,6 +10,7 @@ ghost use Rattle.list_rule.specs.Rule.{startAt, lengthOf};
 ghost use Rattle.list_rule.specs.Tables.{numbersOf};
 ghost use Rattle.rotation.specs.Pairs.{withPair};
 ghost use Rattle.rotation.specs.Rotation.{firstForm};
+ghost use Rattle.rotation.specs.Scheduling.{firstAsked, unturned, Planned, PlanWritten, RecordScheduled};
 use answer::Cycle;
 use answer::Refusal;
 use form::BodyStep;
@@ -20,6 +22,14 @@ pub struct Scheduled {
     pub size: u32,
     pub rotations: u32,
     pub cycle: Cycle,
+}
+
+// A form with its new pair and the rotations that it took, or what is refused of it with its cycle.
+struct Plan {
+    refusal: Refusal,
+    rotations: u32,
+    cycle: Cycle,
+    form: Form,
 }
 
 // The length of a body: the last step in which a node that starts as given is at work.
@@ -59,4 +69,79 @@ pub fn first_form(form: Form) -> Form
     let start = list_rule::list_rule(bare, reach::weights(bare));
     let length = length_of(bare, start);
     with_pair(form, start, length, [0; 64])
+}
+
+// The rotations where they are told, else 0.
+fn told(fine: bool, rotations: u32) -> u32
+    ensures { λ r. ⌜ r ≡ pick fine rotations 0 ⌝ }
+{
+    if fine {
+        return rotations;
+    }
+    0
+}
+
+// A plan into `out`, unless it is refused; a refusal leaves `out` as it was.
+fn write_plan(plan: Plan, out: &mut [u8]) -> Scheduled
+    ensures { λ r. ⌜ PlanWritten plan (now (out .entry)) (now (out .exit)) r ⌝ }
+{
+    let refusal = plan.refusal;
+    let cycle = plan.cycle;
+    if !refusal.is_fine() {
+        return Scheduled {
+            refusal,
+            size: 0,
+            rotations: 0,
+            cycle,
+        };
+    }
+    let form = plan.form;
+    let written = writer::write(form, out);
+    let refused = written.refusal;
+    Scheduled {
+        refusal: refused,
+        size: written.size,
+        rotations: told(refused.is_fine(), plan.rotations),
+        cycle,
+    }
+}
+
+// Knot, else the form with its first schedule.
+fn first_plan(form: Form) -> Plan
+    requires { ⌜ WellFormed form ⌝ }
+    ensures { λ r. ⌜ Planned firstAsked firstForm unturned form r ⌝ }
+{
+    let knot = knots::knot_of(form);
+    if 0 < knot.count {
+        return Plan {
+            refusal: Refusal::Knot,
+            rotations: 0,
+            cycle: knot,
+            form,
+        };
+    }
+    Plan {
+        refusal: Refusal::None,
+        rotations: 0,
+        cycle: knot,
+        form: first_form(form),
+    }
+}
+
+// The record with its first schedule, into `out`; a refusal leaves `out` as it was.
+pub fn first(record: &[u8], out: &mut [u8]) -> Scheduled
+    ensures { λ r. ⌜ RecordScheduled firstAsked firstForm unturned (now («record» .entry)) (now (out .entry)) (now (out .exit)) r ⌝ }
+{
+    let read = reader::read(record);
+    let unread = read.refusal;
+    if !unread.is_fine() {
+        return Scheduled {
+            refusal: unread,
+            size: 0,
+            rotations: 0,
+            cycle: Cycle::none(),
+        };
+    }
+    let form = read.form;
+    write_plan(first_plan(form), out)
 }
