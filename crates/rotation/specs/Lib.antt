@@ -4,3 +4,4 @@ pub mod Search
 pub mod Worked
 pub mod FirstLaws
 pub mod Scheduling
+pub mod SameRule

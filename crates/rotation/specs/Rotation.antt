@@ -5,6 +5,7 @@ use mathlib.Core.List.{List}
 use Prim.Native.Nat.{ℕ}
 use lib.Dec.{ltb}
 use lib.ListN.{replicate}
+use Rattle.lists.specs.Pick.{pick}
 use Rattle.form.specs.declared.Form.{Form}
 use Rattle.legal.specs.Loop.{loopOf, pairOf}
 use Rattle.fit.specs.Retimed.{retimings}
@@ -37,3 +38,11 @@ module _ (f : Form) (z : ℕ) where
   -- it would need more than 512 steps
   unfoldable pub tooLong : Bool
   tooLong = ltb 512 rotatedLength
+
+  -- the starts and the length alone
+  unfoldable pub turnedForm : Form
+  turnedForm = withPair f rotatedStarts rotatedLength (replicate 64 0)
+
+  -- no retiming is fitted to what is too long
+  unfoldable pub rotatedOr : Form
+  rotatedOr = pick tooLong turnedForm rotated

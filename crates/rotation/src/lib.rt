@@ -1,15 +1,20 @@
 // First schedules, rotations and searches.
 ghost use mathlib.Core.Bool.{false};
+ghost use mathlib.Core.Logic.{_≢_};
 ghost use mathlib.Core.Path.{_≡_};
-ghost use Prim.Native.Nat.{ℕ, _≤_, _<_};
+ghost use Prim.Native.Nat.{ℕ, _+_, _-_, _≤_, _<_};
+ghost use lib.Dec.{leb};
+ghost use lib.ListN.{getD};
 ghost use Rattle.lists.specs.Pick.{pick};
 ghost use Rattle.form.specs.Ranges.{WellFormed};
-ghost use Rattle.legal.specs.Loop.{loopOf};
+ghost use Rattle.legal.specs.Legal.{Legal};
+ghost use Rattle.legal.specs.Loop.{loopOf, pairOf};
 ghost use Rattle.legal.specs.Systems.{knotted};
 ghost use Rattle.list_rule.specs.Rule.{startAt, lengthOf};
 ghost use Rattle.list_rule.specs.Tables.{numbersOf};
+ghost use Rattle.list_rule.specs.Turned.{gainedBy, droppedBy};
 ghost use Rattle.rotation.specs.Pairs.{withPair};
-ghost use Rattle.rotation.specs.Rotation.{firstForm};
+ghost use Rattle.rotation.specs.Rotation.{firstForm, turnedForm};
 ghost use Rattle.rotation.specs.Scheduling.{firstAsked, unturned, Planned, PlanWritten, RecordScheduled};
 use answer::Cycle;
 use answer::Refusal;
@@ -66,6 +71,67 @@ pub fn first_form(form: Form) -> Form
     ensures { λ r. ⌜ r ≡ firstForm form ⌝ }
 {
     let bare = with_pair(form, [BodyStep(0); 64], 0, [0; 64]);
+    let start = list_rule::list_rule(bare, reach::weights(bare));
+    let length = length_of(bare, start);
+    with_pair(form, start, length, [0; 64])
+}
+
+// What is left of a start, 0 at least.
+fn less(start: u16, steps: u16) -> u16
+    ensures { λ r. ⌜ r ≡ start - steps ⌝ }
+{
+    if start < steps {
+        return 0;
+    }
+    start - steps
+}
+
+// The starts less so many steps; 0 is a node to place anew.
+fn dropped(start: [BodyStep; 64], steps: u16) -> [BodyStep; 64]
+    ensures { λ r. ⌜ numbersOf r ≡ droppedBy steps (numbersOf start) ⌝ }
+{
+    let mut lower = start;
+    for v in 0..64u8 {
+        let i = v as usize;
+        lower[i] = BodyStep(less(start[i].0, steps));
+    }
+    lower
+}
+
+// A retiming, 1 more where the node starts in the first steps.
+fn gain(retiming: u8, start: u16, steps: u16) -> u8
+    requires { ⌜ retiming ≤ 63 ⌝ }
+    ensures { λ r. ⌜ r ≡ retiming + pick (leb start steps) 1 0 ⌝ }
+{
+    if start <= steps {
+        return retiming + 1;
+    }
+    retiming
+}
+
+// The retimings of the nodes, 1 more for those that start in the first steps.
+fn gained(form: Form, steps: u16) -> [u8; 64]
+    requires { ⌜ WellFormed form × (form .length ≢ 0) ⌝ }
+    ensures { λ r. ⌜ ((v : ℕ) → v < form .nodes → getD r v 0 ≡ gainedBy (pairOf form) steps v) ⌝ }
+{
+    let mut retiming = form.retiming;
+    for v in 0..form.nodes {
+        let i = v as usize;
+        retiming[i] = gain(form.retiming[i], form.start[i].0, steps);
+    }
+    retiming
+}
+
+// The form with its starts rotated, its length taken anew, and retimings 0.
+fn turn_form(form: Form, steps: u16) -> Form
+    requires { ⌜ WellFormed form × Legal (loopOf form) (pairOf form) ⌝ }
+    requires { ⌜ (1 ≤ steps) × (steps < form .length) ⌝ }
+    ensures { λ r. ⌜ r ≡ turnedForm form steps ⌝ }
+{
+    let start = form.start;
+    let lower = dropped(start, steps);
+    let raised = gained(form, steps);
+    let bare = with_pair(form, lower, 0, raised);
     let start = list_rule::list_rule(bare, reach::weights(bare));
     let length = length_of(bare, start);
     with_pair(form, start, length, [0; 64])
