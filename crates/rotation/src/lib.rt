@@ -14,7 +14,7 @@ ghost use Rattle.list_rule.specs.Rule.{startAt, lengthOf};
 ghost use Rattle.list_rule.specs.Tables.{numbersOf};
 ghost use Rattle.list_rule.specs.Turned.{gainedBy, droppedBy};
 ghost use Rattle.rotation.specs.Pairs.{withPair};
-ghost use Rattle.rotation.specs.Rotation.{firstForm, turnedForm};
+ghost use Rattle.rotation.specs.Rotation.{firstForm, turnedForm, rotatedOr};
 ghost use Rattle.rotation.specs.Scheduling.{firstAsked, unturned, Planned, PlanWritten, RecordScheduled};
 use answer::Cycle;
 use answer::Refusal;
@@ -135,6 +135,23 @@ fn turn_form(form: Form, steps: u16) -> Form
     let start = list_rule::list_rule(bare, reach::weights(bare));
     let length = length_of(bare, start);
     with_pair(form, start, length, [0; 64])
+}
+
+// The form rotated by so many steps; no retiming is fitted to more than 512 steps.
+pub fn rotate_form(form: Form, steps: u16) -> Form
+    requires { ⌜ WellFormed form × Legal (loopOf form) (pairOf form) ⌝ }
+    requires { ⌜ (1 ≤ steps) × (steps < form .length) ⌝ }
+    ensures { λ r. ⌜ r ≡ rotatedOr form steps ⌝ }
+{
+    let turned = turn_form(form, steps);
+    let length = turned.length;
+    if 512 < length {
+        return turned;
+    }
+    let fitting = fit::fit_starts(turned);
+    let start = turned.start;
+    let retiming = fitting.retiming;
+    with_pair(form, start, length, retiming)
 }
 
 // The rotations where they are told, else 0.
