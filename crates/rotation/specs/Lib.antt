@@ -5,3 +5,4 @@ pub mod Worked
 pub mod FirstLaws
 pub mod Scheduling
 pub mod SameRule
+pub mod RotatedLaws
