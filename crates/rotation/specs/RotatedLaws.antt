@@ -115,3 +115,56 @@ module _ (f : Form) (w : WellFormed f) (legal : Legal (loopOf f) (pairOf f)) (z 
     rotated-judged =
         let some : rotated f z .length ≢ 0 = λ e. omega (arith, rotated-form-some) in
         accepts-judge (rotated f z) rotated-well-formed some rotated-form-legal
+
+    small-start : Held f → (v : ℕ) → v < 64 → startAt (rotatedStarts f z) v < 65536
+    unfolding rotatedStarts turnedStarts rotatedLength loopOf graphOf
+    small-start h v m =
+        elim (decLt v (f .nodes)) [
+          | yes l ↦ omega (arith, rotated-form-short, length-ends (loopOf f) (rotatedStarts f z) v l)
+          | no l ↦
+              omega (
+                arith,
+                rule-past (loopOf f) (gainedBy (pairOf f) z) v (omega arith) (droppedBy z (startsOf f)),
+                dropped-at z (startsOf f) v,
+                starts-at f v,
+                h .start v m,
+              )
+        ]
+
+    table-long : length (rotatedStarts f z) ≡ 64
+    unfolding rotatedStarts
+    table-long = turned-long (loopOf f) (pairOf f) z (startsOf f) (sound-form f w) legal (tabled f n)
+
+    -- it can be held where the form can
+    pub rotated-held : Held f → Held (rotated f z)
+    unfolding rotated withPair turnedBy
+    rotated-held h = record {
+      sized = record {
+        class = h .sized .class;
+        node = h .sized .node;
+        from = h .sized .from;
+        to = h .sized .to;
+        delays = h .sized .delays;
+        start = length-map (rotatedStarts f z) bodyStep ∙ table-long;
+        retiming = retimings-length (loopOf f) (turnedBy f z) (sound-form f w .few);
+      };
+      classes = h .classes;
+      nodes = h .nodes;
+      edges = h .edges;
+      length = omega (arith, rotated-form-short);
+      class = h .class;
+      node = h .node;
+      edge = h .edge;
+      start = λ v l. omega (arith, step-at (rotatedStarts f z) v, small-start h v l);
+      retiming = λ v l. omega (arith, retimings-small (loopOf f) (turnedBy f z) (sound-form f w) settles v);
+    }
+
+    -- writing it refuses nothing, or Room
+    pub rotated-written : Held f → (room : ℕ) → (refusalOf (rotated f z) room ≡ None) ⊎ (refusalOf (rotated f z) room ≡ Room 0)
+    unfolding refusalOf fine
+    rotated-written h room =
+        let g : Form = rotated f z in
+        let P : Refusal → Type 0 = λ r. (r ≡ None) ⊎ (r ≡ Room 0) in
+        let reads : fine (readForm (layout g) .refusal) ≡ true = ap (λ (x : Record). fine (x .refusal)) (well-formed-written g (rotated-held h) rotated-well-formed) in
+        subst P (sym (pick-true (fine (readForm (layout g) .refusal)) (pick (ltb room (length (layout g))) (Room 0) None) _ reads))
+        (pick-ind P (ltb room (length (layout g))) (Room 0) None (λ _. inr refl) (λ _. inl refl))
