@@ -12,7 +12,6 @@ use Rattle.form.specs.declared.BodyStep.{BodyStep}
 use Rattle.form.specs.Places.{retimingOf}
 use Rattle.form.specs.Ranges.{WellFormed}
 use Rattle.legal.specs.Loop.{graphOf, loopOf}
-use Rattle.legal.specs.Shape.{sound-form}
 use Rattle.legal.specs.Systems.{knotted}
 use Rattle.reach.specs.Weight.{weight}
 use Rattle.reach.specs.Tables.{weightsOf, weights-at}

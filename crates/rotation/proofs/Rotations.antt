@@ -1,15 +1,14 @@
 -- The way of a rotation through a form: the list rule from the starts lowered and the retimings raised.
 -- Assumes nothing.
 use mathlib.Core.Path.{_≡_, refl, sym, ap, subst, _∙_}
-use mathlib.Core.Bool.{true, false}
 use mathlib.Core.Logic.{_≢_}
 use mathlib.Core.List.{List, [], _∷_, map}
-use Prim.Native.Nat.{ℕ, _+_, _-_, _≤_, _<_}
+use Prim.Native.Nat.{ℕ, _-_, _≤_, _<_}
 use native.Mathlib.Omega.{arith}
 use borrow.Author.Tests.{lt-ltb, le-ltb}
 use lib.Dec.{ltb}
 use lib.ListN.{length, getD, replicate}
-use Rattle.lists.specs.Pick.{pick, pick-true, pick-false}
+use Rattle.lists.specs.Pick.{pick-true, pick-false}
 use Rattle.lists.specs.Place.{zeros-at}
 use Rattle.form.specs.declared.Form.{Form}
 use Rattle.form.specs.declared.BodyStep.{BodyStep}

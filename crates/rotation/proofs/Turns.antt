@@ -1,8 +1,8 @@
 -- The way of a rotation: starts lowered and retimings raised, place by place.
 -- Assumes nothing.
-use mathlib.Core.Path.{_≡_, refl, sym, ap, subst, _∙_}
+use mathlib.Core.Path.{_≡_, ap, _∙_}
 use mathlib.Core.Logic.{_≢_}
-use mathlib.Core.List.{List, map}
+use mathlib.Core.List.{List}
 use Prim.Native.Nat.{ℕ, _+_, _-_, _≤_, _<_}
 use native.Mathlib.Nat.{ne-of-lt, not-suc-le-zero}
 use native.Mathlib.Omega.{arith}
@@ -16,7 +16,6 @@ use Rattle.form.specs.declared.BodyStep.{BodyStep}
 use Rattle.form.specs.Places.{noStep, startOf, retimingOf}
 use Rattle.form.specs.Ranges.{WellFormed}
 use Rattle.legal.specs.Loop.{pairOf}
-use Rattle.list_rule.specs.Rule.{startAt}
 use Rattle.list_rule.specs.Tables.{numbersOf}
 use Rattle.list_rule.specs.Turned.{gainedBy, droppedBy, dropped-at}
 use Rattle.list_rule.proofs.Laws.{numbers-length, number-at}

@@ -3,7 +3,7 @@
 use mathlib.Core.Path.{_≡_, refl, sym, ap, subst, _∙_}
 use mathlib.Core.Bool.{true, false}
 use mathlib.Core.Logic.{_⊎_, inl, inr, _≢_}
-use mathlib.Core.List.{List, map}
+use mathlib.Core.List.{List}
 use Prim.Native.Nat.{ℕ, _+_, _-_, _≤_, _<_}
 use native.Mathlib.Decide.{decLt}
 use native.Mathlib.Omega.{arith}
@@ -32,7 +32,7 @@ use Rattle.legal.specs.Judged.{accepts-judge}
 use Rattle.legal.specs.Shape.{sound-form}
 use Rattle.fit.specs.Retimed.{retimings}
 use Rattle.fit.specs.Retimings.{retimings-length, retimings-small, retimings-zero, retimedPair, retimings-legal}
-use Rattle.list_rule.specs.Rule.{startAt, lengthOf}
+use Rattle.list_rule.specs.Rule.{startAt}
 use Rattle.list_rule.specs.Ends.{length-ends}
 use Rattle.list_rule.specs.Filling.{staffed-form}
 use Rattle.list_rule.specs.Tables.{numbersOf, startsOf}

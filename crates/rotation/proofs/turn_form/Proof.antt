@@ -1,7 +1,6 @@
 -- `rotation::turn_form` meets its contract: the list rule from the starts lowered and the retimings raised.
 -- Assumes nothing.
 use mathlib.Core.Path.{_≡_}
-use Prim.Native.Nat.{_≤_, _<_}
 use lib.ListN.{length}
 use borrow.Author.Needs.{needs}
 use Rattle.form.specs.Ranges.{WellFormed}
