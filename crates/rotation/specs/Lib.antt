@@ -2,3 +2,7 @@ pub mod Pairs
 pub mod Rotation
 pub mod Search
 pub mod Worked
+pub mod FirstLaws
+pub mod Scheduling
+pub mod SameRule
+pub mod RotatedLaws

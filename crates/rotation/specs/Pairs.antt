@@ -1,17 +1,12 @@
--- A form's starts as a table of numbers, and a form with another pair.
+-- A form with another pair.
 -- Assumes nothing.
-use mathlib.Core.List.{List, map, _++_}
-use Prim.Native.Nat.{ℕ, _-_}
-use lib.ListN.{replicate, take}
+use mathlib.Core.List.{List, map}
+use Prim.Native.Nat.{ℕ}
 use Rattle.form.specs.declared.Form.{Form}
 use Rattle.form.specs.declared.BodyStep.{BodyStep}
 
 abbrev pub bodyStep : ℕ → BodyStep
 bodyStep n = record { 0 = n }
-
--- the numbers of the start table
-unfoldable pub startsOf : Form → List ℕ
-startsOf f = map (λ (s : BodyStep). s .0) (f .start)
 
 -- the form with the starts, length and retimings given
 unfoldable pub withPair : Form → List ℕ → ℕ → List ℕ → Form

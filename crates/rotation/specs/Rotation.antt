@@ -5,6 +5,7 @@ use mathlib.Core.List.{List}
 use Prim.Native.Nat.{ℕ}
 use lib.Dec.{ltb}
 use lib.ListN.{replicate}
+use Rattle.lists.specs.Pick.{pick}
 use Rattle.form.specs.declared.Form.{Form}
 use Rattle.legal.specs.Loop.{loopOf, pairOf}
 use Rattle.fit.specs.Retimed.{retimings}
@@ -12,7 +13,8 @@ use Rattle.list_rule.specs.Rule.{startAt, lengthOf}
 use Rattle.list_rule.specs.FirstLegal.{firstStarts}
 use Rattle.list_rule.specs.Turned.{gainedBy}
 use Rattle.list_rule.specs.TurnedLegal.{turnedStarts}
-use Rattle.rotation.specs.Pairs.{startsOf, withPair}
+use Rattle.list_rule.specs.Tables.{startsOf}
+use Rattle.rotation.specs.Pairs.{withPair}
 
 -- the list rule with all retimings 0
 unfoldable pub firstForm : Form → Form
@@ -36,3 +38,11 @@ module _ (f : Form) (z : ℕ) where
   -- it would need more than 512 steps
   unfoldable pub tooLong : Bool
   tooLong = ltb 512 rotatedLength
+
+  -- the starts and the length alone
+  unfoldable pub turnedForm : Form
+  turnedForm = withPair f rotatedStarts rotatedLength (replicate 64 0)
+
+  -- no retiming is fitted to what is too long
+  unfoldable pub rotatedOr : Form
+  rotatedOr = pick tooLong turnedForm rotated

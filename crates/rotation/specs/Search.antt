@@ -1,6 +1,6 @@
 -- A search: the first schedule, then up to c rotations, z halved while it is at least the length at hand.
 -- Assumes nothing.
-use mathlib.Core.Bool.{Bool, true, false, _||_}
+use mathlib.Core.Bool.{Bool, _||_}
 use Prim.Native.Nat.{ℕ, zero, suc, _+_, _/_}
 use lib.Dec.{leb, ltb, eqb}
 use Rattle.lists.specs.Pick.{pick}

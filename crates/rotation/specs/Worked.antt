@@ -20,9 +20,10 @@ use Rattle.reach.specs.Weight.{tight, spread, sweep, reach, reachedFrom, weight
 use Rattle.list_rule.specs.Order.{insert, orderOf}
 use Rattle.list_rule.specs.Rule.{uses, inUse, free, blocks, ready, place, fillStep, allPlaced, fillFrom, listRule, lengthOf}
 use Rattle.list_rule.specs.FirstLegal.{firstStarts}
-use Rattle.rotation.specs.Pairs.{startsOf, withPair}
+use Rattle.list_rule.specs.Tables.{numbersOf, startsOf}
 use Rattle.list_rule.specs.Turned.{gainedBy, droppedBy}
 use Rattle.list_rule.specs.TurnedLegal.{turnedStarts}
+use Rattle.rotation.specs.Pairs.{withPair}
 use Rattle.rotation.specs.Rotation.{firstForm, rotatedStarts, rotatedLength, rotated, tooLong}
 use Rattle.rotation.specs.Search.{Search, halved, stops, shorter, turn, searchFrom, searched}
 
@@ -47,5 +48,5 @@ pub worked : (pairIn (firstForm smallForm) ≡ 4 ∷ 1 ∷ 3 ∷ 4 ∷ 0 ∷ 0 �
     × (pairIn (rotated (rotated (firstForm smallForm) 1) 2) ≡ 3 ∷ 2 ∷ 2 ∷ 1 ∷ 2 ∷ 1 ∷ 0 ∷ [])
     × (found (searched smallForm 1 5) ≡ 1 ∷ 2 ∷ 1 ∷ 1 ∷ 2 ∷ 1 ∷ 0 ∷ 0 ∷ [])
     × (found (searched smallForm 0 5) ≡ 0 ∷ 4 ∷ 1 ∷ 3 ∷ 4 ∷ 0 ∷ 0 ∷ 0 ∷ [])
-unfolding smallForm pairIn found emptyForm pick span count fold top hold graphOf loopOf pairOf lateness limits asks raise raiseAll raises everyEdge round settleFrom settledOf topOf turnedAt retimings tight spread sweep reach reachedFrom weight insert orderOf uses inUse free blocks ready place fillStep allPlaced fillFrom listRule lengthOf firstStarts startsOf withPair firstForm gainedBy droppedBy turnedStarts rotatedStarts rotatedLength rotated tooLong halved stops shorter turn searchFrom searched
+unfolding smallForm pairIn found emptyForm pick span count fold top hold graphOf loopOf pairOf lateness limits asks raise raiseAll raises everyEdge round settleFrom settledOf topOf turnedAt retimings tight spread sweep reach reachedFrom weight insert orderOf uses inUse free blocks ready place fillStep allPlaced fillFrom listRule lengthOf firstStarts numbersOf startsOf withPair firstForm gainedBy droppedBy turnedStarts rotatedStarts rotatedLength rotated tooLong halved stops shorter turn searchFrom searched
 worked = (refl, refl, refl, refl, refl, refl)

@@ -1,0 +1,182 @@
+-- The ways that an entry point goes: what is refused of a record, else what becomes of its plan.
+-- Assumes nothing.
+use mathlib.Core.Path.{_≡_, refl, sym, ap, subst, _∙_}
+use mathlib.Core.Bool.{Bool, true, false}
+use mathlib.Core.Logic.{_≢_, _⊎_, inl, inr, ⊎-elim}
+use mathlib.Core.List.{List}
+use Prim.Native.Nat.{ℕ, _≤_, _<_}
+use native.Mathlib.Omega.{arith}
+use lib.ListN.{length}
+use lib.Seq.{sets}
+use Rattle.lists.specs.Pick.{pick, pick-true, pick-false, both-ways}
+use Rattle.lists.specs.Place.{zeros-at}
+use Rattle.answer.specs.Refused.{numberOf, fine}
+use Rattle.answer.specs.Outcome.{noCycle}
+use Rattle.answer.specs.declared.Cycle.{Cycle}
+use Rattle.answer.specs.declared.Refusal.{Refusal}
+use Rattle.answer.specs.declared.Refusal.the-variants.{None, Knot, Room}
+use Rattle.form.specs.declared.Form.{Form}
+use Rattle.form.specs.Ranges.{WellFormed}
+use Rattle.field.specs.Number.{Bytes}
+use Rattle.reader.specs.declared.Record.{Record}
+use Rattle.reader.specs.Reading.{readForm}
+use Rattle.writer.specs.declared.Written.{Written}
+use Rattle.writer.specs.Layout.{layout}
+use Rattle.writer.specs.Writing.{refusalOf, written, bufferAfter}
+use Rattle.record.specs.Held.{Held}
+use Rattle.record.specs.Read.{read-well-formed}
+use Rattle.record.specs.ReadHeld.{read-held}
+use Rattle.legal.specs.Loop.{Loop, Pair, loopOf, pairOf}
+use Rattle.legal.specs.Systems.{knotted}
+use Rattle.legal.specs.Handed.{Handed}
+use Rattle.knots.specs.Found.{KnotFound}
+use Rattle.judge.specs.Early.{read-early}
+use Rattle.rotation.specs.declared.Plan.{Plan}
+use Rattle.rotation.specs.declared.Scheduled.{Scheduled}
+use Rattle.rotation.specs.Rotation.{firstForm}
+use Rattle.rotation.specs.FirstLaws.{first-written}
+use Rattle.rotation.specs.Scheduling.{scheduleRecord, RecordScheduled, Planned, PlanWritten, firstAsked, unturned}
+
+-- beside a refusal that no cycle proves none is handed over
+handed-none : (g : Loop) (p : Pair) (r : Refusal) (c : Cycle) → numberOf r ≢ 12 → numberOf r ≢ 14 → c ≡ noCycle → Handed g p r c
+handed-none g p r c unknotted fitting e = record {
+  knot = λ k. absurd (unknotted (ap numberOf k));
+  impossible = λ k. absurd (fitting (ap numberOf k));
+  none = λ k n. e;
+  filled = λ i h. rw e (zeros-at 64 i);
+}
+
+-- a choice goes the same way where the value chosen is the same
+pick-same : {A : Type 0} (b : Bool) (x x′ y : A) → (b ≡ true → x ≡ x′) → pick b x y ≡ pick b x′ y
+unfolding pick
+pick-same true x x′ y e = e refl
+pick-same false x x′ y e = refl
+
+-- ---- a plan into a buffer
+
+module _ (y : Plan) (out : List ℕ) where
+  pub plan-refused : fine (y .refusal) ≡ false → PlanWritten y out out (record { refusal = y .refusal; size = 0; rotations = 0; cycle = y .cycle })
+  plan-refused b = record {
+    refusal = sym (pick-false (fine (y .refusal)) _ _ b);
+    size = sym (pick-false (fine (y .refusal)) _ _ b);
+    rotations = sym (pick-false (fine (y .refusal)) _ _ b);
+    buffer = sym (pick-false (fine (y .refusal)) _ _ b);
+    cycle = refl;
+  }
+
+  pub plan-written : fine (y .refusal) ≡ true → (z : Written) (last : List ℕ) → z ≡ written (y .form) (length out) → last ≡ bufferAfter (y .form) out → (b : Bool) → b ≡ fine (z .refusal) → (n : ℕ) → n ≡ pick b (y .rotations) 0
+      → PlanWritten y out last (record { refusal = z .refusal; size = z .size; rotations = n; cycle = y .cycle })
+  unfolding written bufferAfter
+  plan-written t z last is-z is-last b is-b n is-n =
+      let refusal : z .refusal ≡ refusalOf (y .form) (length out) = ap (λ (w : Written). w .refusal) is-z in
+      record {
+        refusal = refusal ∙ sym (pick-true (fine (y .refusal)) _ _ t);
+        size = ap (λ (w : Written). w .size) is-z ∙ ap (λ (q : Refusal). pick (fine q) (length (layout (y .form))) 0) (sym refusal);
+        rotations = is-n ∙ ap (λ (d : Bool). pick d (y .rotations) 0) is-b;
+        buffer = is-last ∙ ap (λ (q : Refusal). pick (fine q) (sets out 0 (layout (y .form))) out) (sym refusal);
+        cycle = refl;
+      }
+
+-- ---- a record
+
+module _ (asked : Form → Refusal) (planned : Form → Form) (turned : Form → ℕ) (s out : List ℕ) (x : Record) (back : x ≡ readForm s) where
+  -- what the reader refuses
+  pub entry-unread : fine (x .refusal) ≡ false → (c : Cycle) → c ≡ noCycle → RecordScheduled asked planned turned s out out (record { refusal = x .refusal; size = 0; rotations = 0; cycle = c })
+  unfolding scheduleRecord
+  entry-unread b c e =
+      let early : numberOf (x .refusal) ≤ 10 = rw back (read-early s) in
+      record {
+        refusal = sym (rw (← back) (pick-false (fine (x .refusal)) _ (x .refusal) b));
+        size = sym (pick-false (fine (x .refusal)) _ _ b);
+        rotations = sym (pick-false (fine (x .refusal)) _ _ b);
+        buffer = sym (pick-false (fine (x .refusal)) _ _ b);
+        handed = handed-none _ _ (x .refusal) c (λ q. omega arith) (λ q. omega arith) e;
+      }
+
+  module _ (bytes : Bytes s) (e : fine (x .refusal) ≡ true) where
+    read-fine : fine (readForm s .refusal) ≡ true
+    read-fine = ap (λ (r : Record). fine (r .refusal)) (sym back) ∙ e
+
+    -- a form that is read is well-formed
+    pub form-good : WellFormed (x .form)
+    form-good = rw back (read-well-formed s bytes read-fine)
+
+    module _ (writes : (f : Form) → WellFormed f → Held f → fine (asked f) ≡ true → (room : ℕ) → (refusalOf (planned f) room ≡ None) ⊎ (refusalOf (planned f) room ≡ Room 0)) (y : Plan) (plan : Planned asked planned turned (x .form) y) (last : List ℕ) (r : Scheduled) (a : PlanWritten y out last r) where
+      here : Planned asked planned turned (readForm s .form) y
+      here = subst (λ (q : Record). Planned asked planned turned (q .form) y) back plan
+
+      -- what is fine in the end was planned
+      was-fine : fine (r .refusal) ≡ true → fine (y .refusal) ≡ true
+      was-fine t = go (fine (y .refusal)) refl
+        where
+          go : (b : Bool) → fine (y .refusal) ≡ b → fine (y .refusal) ≡ true
+          go true q = q
+          go false q = both-ways t (ap fine (a .refusal ∙ pick-false (fine (y .refusal)) _ _ q) ∙ q)
+
+      form-is : fine (r .refusal) ≡ true → y .form ≡ planned (readForm s .form)
+      form-is t = here .form (was-fine t)
+
+      handed-on : (b : Bool) → fine (y .refusal) ≡ b → Handed (loopOf (readForm s .form)) (pairOf (readForm s .form)) (r .refusal) (r .cycle)
+      unfolding fine
+      handed-on true t =
+          let is : r .refusal ≡ refusalOf (planned (readForm s .form)) (length out) =
+          a .refusal ∙ pick-true (fine (y .refusal)) _ _ t ∙ ap (λ (f : Form). refusalOf f (length out)) (here .form t) in
+          let w = writes (readForm s .form) (read-well-formed s bytes read-fine) (read-held s bytes read-fine) (ap fine (sym (here .refusal)) ∙ t) (length out) in
+          let late : (numberOf (r .refusal) ≡ 0) ⊎ (numberOf (r .refusal) ≡ 18) = ⊎-elim (λ q. inl (ap numberOf (is ∙ q))) (λ q. inr (ap numberOf (is ∙ q))) w in
+          handed-none _ _ (r .refusal) (r .cycle)
+          (λ q. ⊎-elim (λ k. omega arith) (λ k. omega arith) late)
+          (λ q. ⊎-elim (λ k. omega arith) (λ k. omega arith) late)
+          (a .cycle ∙ here .handed .none (λ q. both-ways t (ap fine q)) (λ q. both-ways t (ap fine q)))
+      handed-on false t =
+          let is : r .refusal ≡ y .refusal = a .refusal ∙ pick-false (fine (y .refusal)) _ _ t in
+          subst (λ (c : Cycle). Handed (loopOf (readForm s .form)) (pairOf (readForm s .form)) (r .refusal) c) (sym (a .cycle))
+          (subst (λ (q : Refusal). Handed (loopOf (readForm s .form)) (pairOf (readForm s .form)) q (y .cycle)) (sym is) (here .handed))
+
+      -- what becomes of the plan
+      pub entry-planned : RecordScheduled asked planned turned s out last r
+      unfolding scheduleRecord
+      entry-planned = record {
+        refusal =
+            a .refusal
+            ∙ pick-same (fine (y .refusal)) _ _ _ (λ t. ap (λ (f : Form). refusalOf f (length out)) (here .form t))
+            ∙ ap (λ (q : Refusal). pick (fine q) (refusalOf (planned (readForm s .form)) (length out)) q) (here .refusal)
+            ∙ sym (pick-true (fine (readForm s .refusal)) _ _ read-fine);
+        size = a .size ∙ pick-same (fine (r .refusal)) _ _ 0 (λ t. ap (λ (f : Form). length (layout f)) (form-is t));
+        rotations = a .rotations ∙ pick-same (fine (r .refusal)) _ _ 0 (λ t. here .rotations (was-fine t));
+        buffer = a .buffer ∙ pick-same (fine (r .refusal)) _ _ out (λ t. ap (λ (f : Form). sets out 0 (layout f)) (form-is t));
+        handed = handed-on (fine (y .refusal)) refl;
+      }
+
+-- ---- the first schedule
+
+module _ (f : Form) (k : Cycle) (found : KnotFound (loopOf f) k) where
+  pub first-knot : 0 < k .count → Planned firstAsked firstForm unturned f (record { refusal = Knot; rotations = 0; cycle = k; form = f })
+  unfolding firstAsked fine
+  first-knot l = record {
+    refusal = sym (pick-true (knotted (loopOf f)) _ _ (found .tied l));
+    form = λ q. both-ways q refl;
+    rotations = λ q. refl;
+    handed = record {
+      knot = λ _. found .knot l;
+      impossible = λ q. let z : _≡_ {A = ℕ} 12 14 = ap numberOf q in absurd (omega arith);
+      none = λ q _. absurd (q refl);
+      filled = found .filled;
+    };
+  }
+
+  pub first-planned : k .count ≤ 0 → (h : Form) → h ≡ firstForm f → Planned firstAsked firstForm unturned f (record { refusal = None; rotations = 0; cycle = k; form = h })
+  unfolding firstAsked
+  first-planned l h is = record {
+    refusal = sym (pick-false (knotted (loopOf f)) _ _ (found .free (omega arith)));
+    form = λ _. is;
+    rotations = λ _. refl;
+    handed = handed-none _ _ None k (omega arith) (omega arith) (found .none (omega arith));
+  }
+
+pub first-writes : (f : Form) → WellFormed f → Held f → fine (firstAsked f) ≡ true → (room : ℕ) → (refusalOf (firstForm f) room ≡ None) ⊎ (refusalOf (firstForm f) room ≡ Room 0)
+unfolding firstAsked fine
+first-writes f w h t room = first-written f w (go (knotted (loopOf f)) refl) h room
+  where
+    go : (b : Bool) → knotted (loopOf f) ≡ b → knotted (loopOf f) ≡ false
+    go true q = both-ways t (ap fine (pick-true (knotted (loopOf f)) Knot None q))
+    go false q = q

@@ -1,0 +1,5 @@
+pub mod Laws
+pub mod Firsts
+pub mod Entries
+pub mod Turns
+pub mod Rotations

@@ -1,0 +1,68 @@
+-- `rotation::dropped` meets its contract: the starts passed are lowered.
+-- Assumes nothing.
+use Prim.Native.Nat.{_≤_, _-_}
+use native.Mathlib.Omega.{arith}
+use borrow.Author.Needs.{needs}
+use Rattle.list_rule.proofs.Laws.{tests}
+use Rattle.rotation.proofs.Turns.{Lowered, lowered-none, lowered-more, lowered-all}
+use Rattle.rotation.proofs.dropped.Statement.{statement}
+use Rattle.rotation.proofs.dropped.Tie as tie
+
+abbrev Inv-loop : tie.InvT-loop
+Inv-loop steps start lower₀ v₀ lower v = (v ≤ 64) × Lowered start steps v lower
+
+abbrev μ-loop : tie.MeasureT-loop
+μ-loop steps start lower₀ v₀ lower v = 64 - v
+
+loop-holds : tie.Need-loop-holds Inv-loop μ-loop
+loop-holds c = (omega arith, lowered-none _ _ _ (search tests))
+
+cast-i : tie.Need-cast-i Inv-loop μ-loop
+cast-i c = search needs
+
+mul-less : tie.Need-mul-less Inv-loop μ-loop
+mul-less c = search needs
+
+element-copy-out-less : tie.Need-element-copy-out-less Inv-loop μ-loop
+element-copy-out-less c = search needs
+
+less-requires : tie.Need-less-requires Inv-loop μ-loop
+less-requires c κs = search needs
+
+mul-lower : tie.Need-mul-lower Inv-loop μ-loop
+mul-lower c = search needs
+
+array-set-from-lower : tie.Need-array-set-from-lower Inv-loop μ-loop
+array-set-from-lower c = search needs
+
+add-v : tie.Need-add-v Inv-loop μ-loop
+add-v c = search needs
+
+loop-less : tie.Need-loop-less Inv-loop μ-loop
+loop-less c = search needs
+
+loop-again : tie.Need-loop-again Inv-loop μ-loop
+loop-again c =
+    let l = c .before .before in
+    (omega arith, lowered-more _ _ _ _ _ (omega arith) (c .less .ensures) (l .loop .inv .1))
+
+returns : tie.Need-returns Inv-loop μ-loop
+returns c = lowered-all _ _ _ _ (omega arith) (search tests) (c .before .loop .inv .1)
+
+pub dropped-spec : {M : Type 1} → statement M
+dropped-spec =
+    tie.close
+    (tie.spec
+    Inv-loop
+    μ-loop
+    loop-holds
+    cast-i
+    mul-less
+    element-copy-out-less
+    less-requires
+    mul-lower
+    array-set-from-lower
+    add-v
+    loop-less
+    loop-again
+    returns)

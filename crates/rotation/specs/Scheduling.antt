@@ -1,0 +1,59 @@
+-- What first, rotation and search answer: the reader's refusal, the form's, then Room; else the whole record with the new pair.
+-- Assumes nothing.
+use mathlib.Core.Path.{_≡_}
+use mathlib.Core.Bool.{true}
+use mathlib.Core.List.{List}
+use Prim.Native.Nat.{ℕ}
+use lib.ListN.{length}
+use lib.Seq.{sets}
+use Rattle.lists.specs.Pick.{pick}
+use Rattle.answer.specs.Refused.{fine}
+use Rattle.answer.specs.declared.Refusal.{Refusal}
+use Rattle.answer.specs.declared.Refusal.the-variants.{None, Knot}
+use Rattle.form.specs.declared.Form.{Form}
+use Rattle.reader.specs.Reading.{readForm}
+use Rattle.writer.specs.Layout.{layout}
+use Rattle.writer.specs.Writing.{refusalOf}
+use Rattle.legal.specs.Loop.{loopOf, pairOf}
+use Rattle.legal.specs.Systems.{knotted}
+use Rattle.legal.specs.Handed.{Handed}
+use Rattle.rotation.specs.declared.Plan.{Plan}
+use Rattle.rotation.specs.declared.Scheduled.{Scheduled}
+
+-- what a form is refused for, its form with the new pair, and the rotations that this takes
+module _ (asked : Form → Refusal) (planned : Form → Form) (turned : Form → ℕ) where
+  -- what is refused of a record, with so much room
+  unfoldable pub scheduleRecord : List ℕ → ℕ → Refusal
+  scheduleRecord s room =
+      pick (fine (readForm s .refusal))
+      (pick (fine (asked (readForm s .form))) (refusalOf (planned (readForm s .form)) room) (asked (readForm s .form)))
+      (readForm s .refusal)
+
+  pub record RecordScheduled (s out out′ : List ℕ) (r : Scheduled) : Type 0 where
+    pub refusal : r .refusal ≡ scheduleRecord s (length out)
+    pub size : r .size ≡ pick (fine (r .refusal)) (length (layout (planned (readForm s .form)))) 0
+    pub rotations : r .rotations ≡ pick (fine (r .refusal)) (turned (readForm s .form)) 0
+    pub buffer : out′ ≡ pick (fine (r .refusal)) (sets out 0 (layout (planned (readForm s .form)))) out
+    pub handed : Handed (loopOf (readForm s .form)) (pairOf (readForm s .form)) (r .refusal) (r .cycle)
+
+  -- a form's part of that, before anything is written
+  pub record Planned (f : Form) (y : Plan) : Type 0 where
+    pub refusal : y .refusal ≡ asked f
+    pub form : fine (y .refusal) ≡ true → y .form ≡ planned f
+    pub rotations : fine (y .refusal) ≡ true → y .rotations ≡ turned f
+    pub handed : Handed (loopOf f) (pairOf f) (y .refusal) (y .cycle)
+
+-- a plan written, unless it is refused
+pub record PlanWritten (y : Plan) (out out′ : List ℕ) (r : Scheduled) : Type 0 where
+  pub refusal : r .refusal ≡ pick (fine (y .refusal)) (refusalOf (y .form) (length out)) (y .refusal)
+  pub size : r .size ≡ pick (fine (r .refusal)) (length (layout (y .form))) 0
+  pub rotations : r .rotations ≡ pick (fine (r .refusal)) (y .rotations) 0
+  pub buffer : out′ ≡ pick (fine (r .refusal)) (sets out 0 (layout (y .form))) out
+  pub cycle : r .cycle ≡ y .cycle
+
+-- the first schedule: only a knot is refused, and nothing is rotated
+unfoldable pub firstAsked : Form → Refusal
+firstAsked f = pick (knotted (loopOf f)) Knot None
+
+abbrev pub unturned : Form → ℕ
+unturned f = 0
