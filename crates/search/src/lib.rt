@@ -1,0 +1,1 @@
+// Searches: the first schedule, then rotations, and the shortest pair met.
