@@ -5,3 +5,4 @@ pub mod Met
 pub mod Kept
 pub mod Good
 pub mod Laws
+pub mod Searching

@@ -5,8 +5,14 @@ ghost use Prim.Native.Nat.{_≤_};
 ghost use Rattle.form.specs.Ranges.{WellFormed};
 ghost use Rattle.legal.specs.Loop.{loopOf};
 ghost use Rattle.legal.specs.Systems.{knotted};
+ghost use Rattle.rotation.specs.Scheduling.{Planned, RecordScheduled};
 ghost use Rattle.search.specs.Search.{halved, shorter, searched};
+ghost use Rattle.search.specs.Searching.{searchAsked, searchForm, searchTurns};
+use answer::Cycle;
+use answer::Refusal;
 use form::Form;
+use rotation::Plan;
+use rotation::Scheduled;
 
 // The shortest pair that a search of a form met, and the rotations completed.
 pub struct Found {
@@ -64,4 +70,54 @@ pub fn search_form(form: Form, count: u16, size: u16) -> Found
         form: best,
         rotations,
     }
+}
+
+// Knot, then Size, else the shortest pair of a search.
+fn search_plan(form: Form, count: u16, size: u16) -> Plan
+    requires { ⌜ WellFormed form ⌝ }
+    ensures { λ r. ⌜ Planned (searchAsked size) (searchForm count size) (searchTurns count size) form r ⌝ }
+{
+    let knot = knots::knot_of(form);
+    if 0 < knot.count {
+        return Plan {
+            refusal: Refusal::Knot,
+            rotations: 0,
+            cycle: knot,
+            form,
+        };
+    }
+    if size == 0 {
+        return Plan {
+            refusal: Refusal::Size(0),
+            rotations: 0,
+            cycle: knot,
+            form,
+        };
+    }
+    let found = search_form(form, count, size);
+    let best = found.form;
+    Plan {
+        refusal: Refusal::None,
+        rotations: found.rotations,
+        cycle: knot,
+        form: best,
+    }
+}
+
+// The record with the shortest pair of a search, into `out`, and the rotations completed; a refusal leaves `out` as it was.
+pub fn search(record: &[u8], count: u16, size: u16, out: &mut [u8]) -> Scheduled
+    ensures { λ r. ⌜ RecordScheduled (searchAsked size) (searchForm count size) (searchTurns count size) (now («record» .entry)) (now (out .entry)) (now (out .exit)) r ⌝ }
+{
+    let read = reader::read(record);
+    let unread = read.refusal;
+    if !unread.is_fine() {
+        return Scheduled {
+            refusal: unread,
+            size: 0,
+            rotations: 0,
+            cycle: Cycle::none(),
+        };
+    }
+    let form = read.form;
+    rotation::write_plan(search_plan(form, count, size), out)
 }
