@@ -102,7 +102,7 @@ module _ (first : Form) (count size : ℕ) (now best : Form) (steps rotations : 
       unfolding tooLong
       going-long f same l long = stopped f same l (stops-is ∙ either (eqb s 0) (tooLong now s) (lt-ltb 512 (rotatedLength now s) (omega (arith, length-is))))
 
-      module _ (n : s ≢ 0) (short : t .length ≤ 512) where
+      module _ (some : s ≢ 0) (short : t .length ≤ 512) where
         fits : tooLong now s ≡ false
         unfolding tooLong
         fits = le-ltb 512 (rotatedLength now s) (omega (arith, length-is))
@@ -119,14 +119,14 @@ module _ (first : Form) (count size : ℕ) (now best : Form) (steps rotations : 
             ∙ ap (λ (u : ℕ). at (rotated now u) u (shorter best (rotated now u)) (rotations + 1)) halves
 
         -- one rotation more
-        pub going-turn : rotations < count → (b : Form) → b ≡ shorter best t → Going first count size t b s (rotations + 1)
+        pub going-turn : rotations < count → (b : Form) → b ≡ shorter best t → (n : ℕ) → n ≡ rotations + 1 → Going first count size t b s n
         unfolding here
-        going-turn l b choice = record {
+        going-turn l b choice n more = subst (Going first count size t b s) (sym more) (record {
           within = omega arith;
           small = rw halves (halved-small (now .length) (k .good .some) steps (k .small));
-          good = subst Good (sym rotated-is) (rotated-good now (k .good) s (record { some = pos-of-ne-zero n; below = below; fits = fits }));
+          good = subst Good (sym rotated-is) (rotated-good now (k .good) s (record { some = pos-of-ne-zero some; below = below; fits = fits }));
           rest =
               ap (searchFrom (count - (rotations + 1))) (turned b choice)
-              ∙ sym (one-more l ∙ pick-false (stops here) here _ (stops-is ∙ fails-or (eqb s 0) (tooLong now s) (ne-eqb s 0 n) fits))
+              ∙ sym (one-more l ∙ pick-false (stops here) here _ (stops-is ∙ fails-or (eqb s 0) (tooLong now s) (ne-eqb s 0 some) fits))
               ∙ k .rest;
-        }
+        })

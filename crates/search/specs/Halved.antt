@@ -41,9 +41,10 @@ module _ (l : ℕ) (one : 1 ≤ l) where
   halved-small z h = omega (arith, halved-least 17 l z)
 
   -- a size that is at least the length is halved
-  pub halved-turn : (z : ℕ) → z < 65536 → l ≤ z → halved 17 l (z / 2) ≡ halved 17 l z
+  pub halved-turn : (z half : ℕ) → z < 65536 → l ≤ z → half ≡ z / 2 → halved 17 l half ≡ halved 17 l z
   unfolding halved doubled
-  halved-turn z h m = halved-more 16 l (z / 2) one (omega arith) ∙ sym (pick-true (leb l z) (halved 16 l (z / 2)) z (le-leb l z m))
+  halved-turn z half h m e =
+      ap (halved 17 l) e ∙ halved-more 16 l (z / 2) one (omega arith) ∙ sym (pick-true (leb l z) (halved 16 l (z / 2)) z (le-leb l z m))
 
   -- a size below it stays
   pub halved-stays : (z : ℕ) → z < l → z ≡ halved 17 l z

@@ -36,7 +36,7 @@ add-rotations : tie.Need-add-rotations Inv-loop μ-loop
 add-rotations c = search needs
 
 loop-less : tie.Need-loop-less Inv-loop μ-loop
-loop-less c = search needs
+loop-less c = omega (arith, c .before .before .before .before .before .before .loop-test .taken)
 
 loop-again : tie.Need-loop-again Inv-loop μ-loop
 loop-again c =
@@ -44,7 +44,7 @@ loop-again c =
     let h = r .before .before in
     let l = h .before .before in
     going-turn _ _ _ _ _ _ _ (l .loop .inv) _ (h .halve .ensures) _ (r .rotate-form .ensures) (λ e. omega (arith, e, r .before .if1 .left))
-    (omega (arith, c .before .if2 .left)) (omega (arith, h .before .loop-test .taken)) _ (c .shorter-of .ensures)
+    (omega (arith, c .before .if2 .left)) (omega (arith, h .before .loop-test .taken)) _ (c .shorter-of .ensures) _ (omega arith)
 
 returns : tie.Need-returns Inv-loop μ-loop
 returns c =
