@@ -77,7 +77,7 @@ fn search_plan(form: Form, count: u16, size: u16) -> Plan
     requires { ⌜ WellFormed form ⌝ }
     ensures { λ r. ⌜ Planned (searchAsked size) (searchForm count size) (searchTurns count size) form r ⌝ }
 {
-    let knot = knots::knot_of(form);
+    let knot = knots::knot_of(form.nodes, form.edges, &form.from, &form.to, &form.delays);
     if 0 < knot.count {
         return Plan {
             refusal: Refusal::Knot,
