@@ -1,0 +1,8 @@
+pub mod Search
+pub mod Worked
+pub mod Halved
+pub mod Met
+pub mod Kept
+pub mod Good
+pub mod Laws
+pub mod Searching
