@@ -7,7 +7,7 @@ use Prim.Native.Nat.{ℕ, suc, _+_, _-_, _≤_, _<_}
 use native.Mathlib.Nat.{sub-zero, pos-of-ne-zero}
 use native.Mathlib.Omega.{arith}
 use borrow.Author.Tests.{lt-ltb, le-ltb, eq-eqb, ne-eqb}
-use lib.Dec.{eqb, ltb}
+use lib.Dec.{eqb}
 use Rattle.lists.specs.Pick.{pick, pick-ind, pick-true, pick-false}
 use Rattle.lists.specs.Both.{fails-or}
 use Rattle.form.specs.declared.Form.{Form}
@@ -17,9 +17,9 @@ use Rattle.legal.specs.Legal.{Legal}
 use Rattle.legal.specs.Systems.{knotted}
 use Rattle.rotation.specs.Pairs.{withPair}
 use Rattle.rotation.specs.Rotation.{firstForm, rotatedLength, rotated, tooLong, turnedForm, rotatedOr}
-use Rattle.search.specs.Search.{Search, halved, stepsFor, stops, shorter, turn, begun, searchFrom, searched}
+use Rattle.search.specs.Search.{Search, halved, stops, shorter, turn, begun, searchFrom, searched}
 use Rattle.search.specs.Halved.{halved-below, halved-small}
-use Rattle.search.specs.Good.{Good, Turns, first-good, rotated-good}
+use Rattle.search.specs.Good.{Good, first-good, rotated-good}
 
 abbrev pub at : Form → ℕ → Form → ℕ → Search
 at now steps best rotations = record { now = now; steps = steps; best = best; rotations = rotations }
