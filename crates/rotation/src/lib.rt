@@ -194,7 +194,7 @@ fn first_plan(form: Form) -> Plan
     requires { ⌜ WellFormed form ⌝ }
     ensures { λ r. ⌜ Planned firstAsked firstForm unturned form r ⌝ }
 {
-    let knot = knots::knot_of(form);
+    let knot = knots::knot_of(form.nodes, form.edges, &form.from, &form.to, &form.delays);
     if 0 < knot.count {
         return Plan {
             refusal: Refusal::Knot,
