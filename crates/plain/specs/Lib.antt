@@ -1,0 +1,3 @@
+pub mod Looping
+pub mod Ascending
+pub mod Settled
