@@ -1,3 +1,4 @@
 pub mod Looping
 pub mod Ascending
 pub mod Settled
+pub mod Answer
