@@ -36,8 +36,8 @@ module _ (g : Loop) (starts order : List ℕ) where
     long = length-set values (placeOf g starts i (getD order k 0)) x ∙ t .long;
     so-far =
         rw (is, add-one, take-suc order k 0 l) (
-          ap (λ vs. stored g starts i vs (getD order k 0)) (t .so-far)
-          ∙ sym (fold-last (stored g starts i) before (take k order) (getD order k 0)));
+        ap (λ vs. stored g starts i vs (getD order k 0)) (t .so-far)
+        ∙ sym (fold-last (stored g starts i) before (take k order) (getD order k 0)));
   }
 
   stored-long : (i : ℕ) (us values : List ℕ) → length (fold (stored g starts i) values us) ≡ length values

@@ -89,7 +89,16 @@ fn iterate<'a>(
         let node = form.node[v];
         let operation = node.operation;
         let value = operands::value_of(
-            operation, first[v], nodes, form.edges, iteration, &form.from, &form.delays, next, starts, values,
+            operation,
+            first[v],
+            nodes,
+            form.edges,
+            iteration,
+            &form.from,
+            &form.delays,
+            next,
+            starts,
+            values,
         );
         values[row + v] = value;
     }
@@ -105,7 +114,15 @@ fn iterate_all(form: Form, order: [u8; 64], iterations: u16, starts: &[u32], val
     let links = operands::incoming_of(&form.to, form.edges);
     for i in 0..iterations {
         let iteration = Iteration(i as u32);
-        iterate(form, &order, &links.first, &links.next, iteration, starts, values);
+        iterate(
+            form,
+            &order,
+            &links.first,
+            &links.next,
+            iteration,
+            starts,
+            values,
+        );
     }
 }
 

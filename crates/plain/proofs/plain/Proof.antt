@@ -1,49 +1,39 @@
+-- `plain::plain` meets its contract: the reader's refusal, else the form's.
+-- Assumes nothing.
+use mathlib.Core.Path.{refl, sym, _∙_}
+use native.Mathlib.Omega.{arith}
 use borrow.Author.Needs.{needs}
+use borrow.Author.Tests.{not-true, not-false}
+use Rattle.judge.proofs.Laws.{read-good}
+use Rattle.plain.proofs.Answers.{record-refused, record-looped}
 use Rattle.plain.proofs.plain.Statement.{statement}
 use Rattle.plain.proofs.plain.Tie as tie
-use Rattle.plain.proofs.plain.Reads as reads
-use Rattle.plain.proofs.plain.Lts as lts
-use Rattle.answer.proofs.Refusal.is_fine.Reads as is-fine-reads
-use Rattle.plain.proofs.alone.Reads as alone-reads
-use Rattle.plain.proofs.plain_form.Reads as plain-form-reads
-use Rattle.reader.proofs.read.Reads as read-reads
 
--- src/lib.rt:161:9
 read-requires : tie.Need-read-requires
 read-requires c κs = search needs
 
--- src/lib.rt:163:9
 is-fine-requires : tie.Need-is-fine-requires
 is-fine-requires c κs = search needs
 
--- src/lib.rt:164:9
 alone-requires : tie.Need-alone-requires
 alone-requires c κs = search needs
 
--- src/lib.rt:164:9
 returns : tie.Need-returns
-returns c = ?
+returns c =
+    record-refused _ _ (c .before .before .before .read .ensures) _ _ _ _ _ (sym (c .before .before .is-fine .ensures) ∙ not-true _ (c .before .if1 .taken)) (c .alone .ensures .0) (c .alone .ensures .1) refl
 
--- src/lib.rt:167:5
 plain-form-requires : tie.Need-plain-form-requires
-plain-form-requires c κs = ?
+plain-form-requires c κs =
+    let s = c .before .before .before .before .before .before .before .before in
+    read-good (s .args .«record» .now) _ (c .before .before .before .before .read .ensures) (λ i. omega (arith, c .before .before .before .before .before .before .before .shared-slice-known .given i))
+    (sym (c .before .before .before .is-fine .ensures) ∙ not-false _ (c .before .before .if1 .left))
 
--- src/lib.rt:158:1
 same-length : tie.Need-same-length
 same-length c = search needs
 
--- src/lib.rt:158:1
 returns-2 : tie.Need-returns-2
-returns-2 c = ?
+returns-2 c =
+    record-looped _ _ (c .before .before .before .before .before .before .before .read .ensures) _ _ _ _ _ (sym (c .before .before .before .before .before .before .is-fine .ensures) ∙ not-false _ (c .before .before .before .before .before .if1 .left)) (c .before .before .plain-form .ensures)
 
 pub plain-spec : {M : Type 1} → statement M
-plain-spec =
-    tie.close
-    (tie.spec
-    read-requires
-    is-fine-requires
-    alone-requires
-    returns
-    plain-form-requires
-    same-length
-    returns-2)
+plain-spec = tie.close (tie.spec read-requires is-fine-requires alone-requires returns plain-form-requires same-length returns-2)
