@@ -2,3 +2,4 @@ pub mod Looping
 pub mod Ascending
 pub mod Settled
 pub mod Answer
+pub mod Only
