@@ -18,7 +18,7 @@ ranked-requires c κs = ends-form _ (c .before .before .before .before .before .
 returns : tie.Need-returns
 returns c =
     let s = c .before .before .before .before .before .before .before .before .before .before in
-    looped-knot (s .args .t1) _ _ _ _ (c .before .before .before .ranked .ensures (loopOf (s .args .t1)) (told-form (s .args .t1)) .found) (c .if1 .taken)
+    looped-knot (s .args .t1) _ _ _ _ (c .before .before .before .ranked .ensures (loopOf (s .args .t1)) (told-form (s .args .t1)) .found) (omega (arith, c .if1 .taken))
 
 room-of-requires : tie.Need-room-of-requires
 room-of-requires c κs = search needs
@@ -32,7 +32,7 @@ alone-requires c κs = search needs
 returns-2 : tie.Need-returns-2
 returns-2 c =
     let s = c .before .before .before .before .before .before .before .before .before .before .before .before .before .before in
-    looped-refused (s .args .t1) _ _ _ _ (c .before .before .before .before .before .before .before .ranked .ensures (loopOf (s .args .t1)) (told-form (s .args .t1)) .found) (c .before .before .before .before .if1 .left) _ (c .before .before .before .room-of .ensures) _ (c .alone .ensures .1)
+    looped-refused (s .args .t1) _ _ _ _ (c .before .before .before .before .before .before .before .ranked .ensures (loopOf (s .args .t1)) (told-form (s .args .t1)) .found) (omega (arith, c .before .before .before .before .if1 .left)) _ (c .before .before .before .room-of .ensures) _ (c .alone .ensures .1)
     (sym (c .before .before .is-fine .ensures) ∙ not-true _ (c .before .if2 .taken)) (c .alone .ensures .0)
 
 order-of-requires : tie.Need-order-of-requires
