@@ -11,41 +11,31 @@ pub struct Reader<'a> {
 }
 
 // The byte at a place.
-pub fn byte_at(s: &[u8], at: usize) -> u8
+fn byte_at(s: &[u8], at: usize) -> u8
     requires { ⌜ at < length (now s) ⌝ }
     ensures { λ r. ⌜ r ≡ byteAt (now (s .entry)) at ⌝ }
 {
     s[at]
 }
 
-// A byte as a wider number.
-fn wide(x: u8) -> u16
-    ensures { λ r. ⌜ (r ≡ x) × (r < 256) ⌝ }
-{
-    x as u16
-}
-
 // The number in two bytes from a place on, the lowest byte first.
-pub fn pair_at(s: &[u8], at: usize) -> u16
+fn pair_at(s: &[u8], at: usize) -> u16
     requires { ⌜ at + 2 ≤ length (now s) ⌝ }
     ensures { λ r. ⌜ r ≡ pairAt (now (s .entry)) at ⌝ }
 {
-    wide(s[at]) + 256 * wide(s[at + 1])
-}
-
-// A number of two bytes as a wider number.
-fn wider(x: u16) -> u32
-    ensures { λ r. ⌜ (r ≡ x) × (r < 65536) ⌝ }
-{
-    x as u32
+    let low = byte_at(s, at) as u16;
+    let high = byte_at(s, at + 1) as u16;
+    low + 256 * high
 }
 
 // The number in four bytes from a place on, the lowest byte first.
-pub fn word_at(s: &[u8], at: usize) -> u32
+fn word_at(s: &[u8], at: usize) -> u32
     requires { ⌜ at + 4 ≤ length (now s) ⌝ }
     ensures { λ r. ⌜ r ≡ wordAt (now (s .entry)) at ⌝ }
 {
-    wider(pair_at(s, at)) + 65536 * wider(pair_at(s, at + 2))
+    let low = pair_at(s, at) as u32;
+    let high = pair_at(s, at + 2) as u32;
+    low + 65536 * high
 }
 
 // A reader at the first byte.

@@ -14,14 +14,13 @@ use prog.Memory.{Memory}
 use prog.Routine.{Routine}
 use prog.Wp.{Heap, Calls, Loops, WpFn, Tables}
 use ghost.Atoms.{Atoms}
-use contract.Lifetimes.{Lfts}
 use contract.Monad.{Fun}
 use contract.Running.{givenOf, tables, tablesOf}
 use types.Kit.{Given, ‵, _⊛_, _$_, _∵_, !, qed, by, move, use1, split, fsplit, fjoin, suffices, frame}
 use types.Part.{whole, sub, look-in, agg}
 use types.Run.{look, init, forget, stop, fld, from, load, of-opd, and-then, no-more, assigns, returns, enter, alloc1, alloc0, params1, pass1, pass0, free1, free0}
 use sound.WpLaws.{WpFn-mono}
-use denote.RattleType.{RattleType, owns}
+use denote.RattleType.{owns}
 use denote.Laws.{Is}
 use denote.Plain.{uint-vals, uint-tells, uint-makes}
 use denote.Builtin.{usize}
@@ -35,16 +34,13 @@ use denote.Triple.Table.{entered}
 use denote.Triple.Walked.{says, Stays, stay-none, walkOf, goes-none, Walks, ends-at, walked, walk-meets}
 use denote.Exit.{yes}
 use Rattle.thin.specs.declared.Reader.{Reader}
+use Rattle.thin.proofs.Apart.{B}
 use Rattle.thin.proofs.Reader as T
 use Rattle.thin.proofs.Reader.Laws as T′
 use Rattle.thin.proofs.moved.Key.{name as #thin·moved}
 use Rattle.thin.proofs.moved as moved
 use Rattle.thin.proofs.moved.Statement as stated
 use Rattle.thin.proofs.moved.Code as code
-
--- the struct's type, over the signature's lifetimes
-abbrev B : Lfts 1 → RattleType
-B κs = T.the-row (namedLft 1 0 tt κs)
 
 abbrev stayed : Stays (moved.ended .signature .params) (moved.ended .kept)
 stayed = (stay-none B yes, (stay-none (λ _. usize) yes, tt))
