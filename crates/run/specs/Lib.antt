@@ -1,3 +1,4 @@
 pub mod Order
 pub mod Repeat
 pub mod Units
+pub mod Tables
