@@ -2,6 +2,7 @@
 -- Assumes nothing.
 use mathlib.Core.Path.{_≡_, refl, sym, _∙_, ap}
 use mathlib.Core.List.{List, [], _∷_, _++_, map, append-assoc}
+use mathlib.Core.Bool.{true, false}
 use mathlib.Core.Logic.{_≢_}
 use Prim.Native.Nat.{ℕ, zero, suc, _+_, _-_, _*_, _≤_, _<_, max}
 use native.Mathlib.Omega.{arith}
@@ -9,6 +10,7 @@ use native.Mathlib.Numerals.{add-one}
 use native.Mathlib.Nat.{mul-le-mul}
 use borrow.Author.Needs.{needs}
 use borrow.Author.Tests.{eq-eqb, ne-eqb, le-leb, lt-leb, le-ltb, lt-ltb}
+use lib.Dec.{ltb}
 use lib.ListN.{length, getD, set, take}
 use Rattle.lists.specs.Span.{span}
 use Rattle.lists.specs.Fold.{top}
@@ -19,6 +21,7 @@ use Rattle.form.specs.Ranges.{WellFormed}
 use Rattle.legal.specs.Loop.{graphOf, loopOf, pairOf}
 use Rattle.machine.specs.Run.{depth, cleared}
 use Rattle.run.specs.Tables.{startIn}
+use Rattle.run.specs.Late.{missing}
 
 pub ruleset tests = (needs, eq-eqb, ne-eqb, le-leb, lt-leb, le-ltb, lt-ltb)
 
@@ -45,6 +48,21 @@ pub starts-in : (f : Form) → WellFormed f → f .length ≢ 0 → (v : ℕ) �
 starts-in f w some v l =
     let s = w .schedule some .starts v l in
     (s .begins, omega (arith, s .ends, w .class _ (w .node v l) .latency .0))
+
+-- ---- what an edge hands over
+
+module _ (nodes : ℕ) (finish : List ℕ) (i t u d : ℕ) where
+  pub missing-before : i < d → false ≡ missing nodes finish i t u d
+  unfolding missing
+  missing-before l = rw (lt-ltb i d l)
+
+  pub missing-none : d ≤ i → getD finish ((i - d) * nodes + u) 0 ≡ 0 → true ≡ missing nodes finish i t u d
+  unfolding missing
+  missing-none l e = rw (le-ltb i d l, eq-eqb (getD finish ((i - d) * nodes + u) 0) 0 e)
+
+  pub missing-some : d ≤ i → getD finish ((i - d) * nodes + u) 0 ≢ 0 → ltb t (getD finish ((i - d) * nodes + u) 0) ≡ missing nodes finish i t u d
+  unfolding missing
+  missing-some l e = rw (le-ltb i d l, ne-eqb (getD finish ((i - d) * nodes + u) 0) 0 e)
 
 -- ---- the depth
 

@@ -1,5 +1,6 @@
 pub mod Order
 pub mod Repeat
-pub mod Units
 pub mod Tables
+pub mod Units
 pub mod Late
+pub mod Issue
