@@ -1,3 +1,4 @@
 pub mod Laws
 pub mod Placing
 pub mod Issuing
+pub mod Midway

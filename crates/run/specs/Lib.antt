@@ -4,3 +4,4 @@ pub mod Tables
 pub mod Units
 pub mod Late
 pub mod Issue
+pub mod Going
