@@ -49,6 +49,9 @@ starts-in f w some v l =
     let s = w .schedule some .starts v l in
     (s .begins, omega (arith, s .ends, w .class _ (w .node v l) .latency .0))
 
+pub start-few : (f : Form) → WellFormed f → f .length ≢ 0 → (v : ℕ) → v < f .nodes → startIn (f .start) v ≤ 512
+start-few f w some v l = omega (arith, starts-in f w some v l .1, w .length)
+
 -- ---- what an edge hands over
 
 module _ (nodes : ℕ) (finish : List ℕ) (i t u d : ℕ) where

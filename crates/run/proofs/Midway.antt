@@ -34,7 +34,8 @@ use Rattle.run.specs.Order.{Rising, order-rising, order-length}
 use Rattle.run.specs.Repeat.{order, stepIn, visitIn, repeated, visits-stay}
 use Rattle.run.specs.Units.{Boarded, Point, point-later}
 use Rattle.run.specs.Issue.{machineOf, Told, Outcome, Sized}
-use Rattle.run.specs.Going.{Equipped, Before, Went}
+use Rattle.run.specs.Going.{Before, Went}
+use Rattle.run.proofs.Laws.{starts-in}
 
 -- a well-formed form has up to 4 classes of up to 8 units
 pub boarded-form : (f : Form) → WellFormed f → Boarded (loopOf f)
@@ -75,8 +76,11 @@ module _ (f : Form) (w : WellFormed f) (first next : List ℕ) (links : Links (�
 -- ---- a visit that can issue
 
 -- whether a node with retiming r has an iteration in repetition j, of k, at a depth
-abbrev hasOne : ℕ → ℕ → ℕ → ℕ → Bool
+abbrev pub hasOne : ℕ → ℕ → ℕ → ℕ → Bool
 hasOne deep j r k = leb deep (j + r) && ltb (j + r) (deep + k)
+
+pub has-low : (deep j r k : ℕ) → hasOne deep j r k ≡ true → deep ≤ j + r
+has-low deep j r k e = leb-true _ _ (both _ _ e .0)
 
 module _ (g : Loop) (p : Pair) (starts : List ℕ) (k j v : ℕ) (begins : 1 ≤ p .start v) (ends : p .start v ≤ p .length) where
   rep-is : ((stepIn g p starts k j (p .start v) - 1) / p .length ≡ j) × ((stepIn g p starts k j (p .start v) - 1) % p .length ≡ p .start v - 1)
@@ -112,14 +116,9 @@ module _ (f : Form) (k : ℕ) (starts : List ℕ) (j : ℕ) where
     pub point : Point (loopOf f) (pairOf f) starts k (j * f .length * f .nodes + low) finish free
 
   module _ (well : WellFormed f) (scheduled : f .length ≢ 0) where
-    starts-in : (v : ℕ) → v < f .nodes → (1 ≤ startOf f v) × (startOf f v < 1 + f .length)
-    starts-in v l =
-        let s = well .schedule scheduled .starts v l in
-        (s .begins, omega (arith, s .ends, well .class _ (well .node v l) .latency .0))
-
     many : length (order (loopOf f) (pairOf f)) ≡ f .nodes
     unfolding loopOf pairOf graphOf
-    many = order-length (startOf f) (f .nodes) 1 (f .length) starts-in
+    many = order-length (startOf f) (f .nodes) 1 (f .length) (starts-in f well scheduled)
 
     pub midway-begins : (values finish free : List ℕ) → Before f k starts j values finish free → Midway values finish 0 values finish free
     unfolding repeated loopOf pairOf graphOf
@@ -156,7 +155,7 @@ module _ (f : Form) (k : ℕ) (starts : List ℕ) (j : ℕ) where
             ≡ pick (hasOne (depth (loopOf f) (pairOf f)) j (retimingOf f (getD table i 0)) k)
             (issue (loopOf f) (pairOf f) starts k (machineOf values finish None) (j * f .length + startOf f (getD table i 0)) (getD table i 0)) (machineOf values finish None)
         unfolding pairOf
-        visited = visit-here (loopOf f) (pairOf f) starts k j (getD table i 0) (starts-in (getD table i 0) node-in .0) (omega (arith, starts-in (getD table i 0) node-in .1)) values finish
+        visited = visit-here (loopOf f) (pairOf f) starts k j (getD table i 0) (starts-in f well scheduled (getD table i 0) node-in .0) (omega (arith, starts-in f well scheduled (getD table i 0) node-in .1)) values finish
 
         module _ (deep : ℕ) (is-depth : deep ≡ depth (loopOf f) (pairOf f)) where
           -- the node has no iteration here
@@ -172,7 +171,10 @@ module _ (f : Form) (k : ℕ) (starts : List ℕ) (j : ℕ) where
 
           module _ (some : hasOne deep j (retimingOf f (getD table i 0)) k ≡ true) where
             low-enough : (deep ≤ j + retimingOf f (getD table i 0)) × (j + retimingOf f (getD table i 0) < deep + k)
-            low-enough = let b = both _ _ some in (leb-true _ _ (b .0), ltb-true _ _ (b .1))
+            low-enough = (
+              has-low deep j (retimingOf f (getD table i 0)) k some,
+              ltb-true (j + retimingOf f (getD table i 0)) (deep + k) (both (leb deep (j + retimingOf f (getD table i 0))) (ltb (j + retimingOf f (getD table i 0)) (deep + k)) some .1),
+            )
 
             pub midway-told : (x t : ℕ) → x ≡ j + retimingOf f (getD table i 0) - deep → t ≡ j * f .length + startOf f (getD table i 0)
                 → Told (loopOf f) (pairOf f) starts k (getD table i 0) x t (nodeOf f (getD table i 0) .class) (classOf f (nodeOf f (getD table i 0) .class))
@@ -180,7 +182,7 @@ module _ (f : Form) (k : ℕ) (starts : List ℕ) (j : ℕ) where
             midway-told x t is-x is-t =
                 let v : ℕ = getD table i 0 in
                 let e = low-enough in
-                let from = starts-in v node-in in
+                let from = starts-in f well scheduled v node-in in
                 rw (is-x, is-t) (record {
                   sound = sound-form f well;
                   placed = placed-form f well scheduled;
