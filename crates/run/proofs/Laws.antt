@@ -43,6 +43,9 @@ cleared-all i n xs ys e q = rw (← q) e
 pub body-steps : (j l : ℕ) → j ≤ 65598 → l ≤ 512 → j * l ≤ 33586176
 body-steps j l a b = mul-le-mul a b
 
+pub places-small : (k n : ℕ) → k ≤ 65535 → n ≤ 255 → k * n ≤ 16711425
+places-small k n a b = mul-le-mul a b
+
 -- every node starts in the body
 pub starts-in : (f : Form) → WellFormed f → f .length ≢ 0 → (v : ℕ) → v < f .nodes → (1 ≤ startIn (f .start) v) × (startIn (f .start) v < 1 + f .length)
 starts-in f w some v l =

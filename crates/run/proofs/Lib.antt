@@ -2,3 +2,4 @@ pub mod Laws
 pub mod Placing
 pub mod Issuing
 pub mod Midway
+pub mod Rounds

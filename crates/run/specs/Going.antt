@@ -6,6 +6,8 @@ use mathlib.Core.Logic.{_≢_}
 use mathlib.Core.List.{List}
 use Prim.Native.Nat.{ℕ, _+_, _*_, _≤_}
 use lib.ListN.{length, getD, take}
+use Rattle.lists.specs.Span.{span}
+use Rattle.lists.specs.Fold.{fold}
 use Rattle.answer.specs.Refused.{fine}
 use Rattle.answer.specs.declared.Refusal.{Refusal}
 use Rattle.answer.specs.declared.Refusal.the-variants.{None}
@@ -39,3 +41,9 @@ pub record Went (f : Form) (k : ℕ) (starts : List ℕ) (j : ℕ) (values₀ fi
   pub sized : Sized values₀ finish₀ values finish free
   pub is-repeated : machineOf values finish why ≡ repeated (loopOf f) (pairOf f) starts k (machineOf values₀ finish₀ None) j
   pub next : fine why ≡ true → (why ≡ None) × Before f k starts (j + 1) values finish free
+
+-- what all repetitions make of them
+pub record Repetitions (f : Form) (k deep : ℕ) (starts values₀ finish₀ values finish : List ℕ) (why : Refusal) : Type 0 where
+  pub values-long : length values ≡ length values₀
+  pub finish-long : length finish ≡ length finish₀
+  pub are-repeated : machineOf values finish why ≡ fold (repeated (loopOf f) (pairOf f) starts k) (machineOf values₀ finish₀ None) (span 0 (k + deep))

@@ -5,3 +5,4 @@ pub mod Units
 pub mod Late
 pub mod Issue
 pub mod Going
+pub mod Running
