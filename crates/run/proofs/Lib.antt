@@ -3,3 +3,4 @@ pub mod Placing
 pub mod Issuing
 pub mod Midway
 pub mod Rounds
+pub mod Entry
