@@ -5,7 +5,6 @@ use Prim.Native.Nat.{ℕ, _-_, _≤_, _<_}
 use native.Mathlib.Omega.{arith}
 use borrow.Author.Needs.{needs}
 use Rattle.legal.specs.Loop.{Loop}
-use Rattle.operands.specs.Combined.{combined}
 use Rattle.operands.specs.Tables.{Tells, Follows}
 use Rattle.operands.proofs.Laws.{Walking, walking-first, walking-on, walking-end}
 use Rattle.operands.proofs.value_of.Statement.{statement}
