@@ -1,6 +1,6 @@
 -- What a well-formed form gives: tables that tell its loop, and, with its edges linked, all that a node's value needs.
 -- Assumes nothing.
-use mathlib.Core.Path.{_≡_, refl}
+use mathlib.Core.Path.{refl}
 use mathlib.Core.List.{List}
 use Prim.Native.Nat.{ℕ, _+_, _-_, _≤_, _<_}
 use native.Mathlib.Omega.{arith}

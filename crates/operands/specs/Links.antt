@@ -1,14 +1,14 @@
 -- The edges into each node as links: the first into a node, and after an edge the next with the same head. A walk over the links meets exactly those edges.
 -- Assumes nothing.
-use mathlib.Core.Path.{_≡_, refl, sym, _∙_, ap}
+use mathlib.Core.Path.{_≡_, refl}
 use mathlib.Core.Bool.{Bool, true, false}
-use mathlib.Core.List.{List, [], _∷_}
-use Prim.Native.Nat.{ℕ, zero, suc, _+_, _-_, _≤_, _<_}
+use mathlib.Core.List.{List, _∷_}
+use Prim.Native.Nat.{ℕ, zero, suc, _+_, _-_, _<_}
 use native.Mathlib.Omega.{arith}
 use lib.Dec.{eqb}
 use lib.ListN.{getD}
-use Rattle.lists.specs.Pick.{pick, pick-ind}
-use Rattle.lists.specs.First.{firstFrom, first-is}
+use Rattle.lists.specs.Pick.{pick}
+use Rattle.lists.specs.First.{firstFrom}
 use Rattle.legal.specs.Loop.{Loop}
 use Rattle.machine.specs.Values.{edgesInto}
 

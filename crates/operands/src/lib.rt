@@ -17,7 +17,7 @@ pub struct Incoming {
     pub next: [u16; 256],
 }
 
-// As long as no edge is linked, its number stands at each place.
+// Before any edge is linked the number of edges stands at each place.
 fn first_blank(edges: u16) -> [u16; 64]
     ensures { λ r. ⌜ (length r ≡ 64) × ((v : ℕ) → v < 64 → getD r v 0 ≡ edges) ⌝ }
 {

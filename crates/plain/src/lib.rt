@@ -162,9 +162,9 @@ pub fn plain_form(form: Form, iterations: u16, starts: &[u32], values: &mut [u32
             cycle,
         };
     }
-    let refusal = room_of(form.nodes, iterations, starts.len(), values.len());
-    if !refusal.is_fine() {
-        return alone(refusal);
+    let room = room_of(form.nodes, iterations, starts.len(), values.len());
+    if !room.is_fine() {
+        return alone(room);
     }
     let order = order_of(form.nodes, &ranking.rank);
     iterate_all(form, order, iterations, starts, values);

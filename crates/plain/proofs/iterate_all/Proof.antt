@@ -1,13 +1,12 @@
 -- `plain::iterate_all` meets its contract: the iterations so far are done.
 -- Assumes nothing.
-use mathlib.Core.Path.{_≡_, sym, _∙_}
-use Prim.Native.Nat.{_≤_, _<_, _-_}
+use mathlib.Core.Path.{_≡_}
+use Prim.Native.Nat.{_≤_, _-_}
 use native.Mathlib.Omega.{arith}
 use lib.ListN.{take}
 use borrow.Author.Needs.{needs}
 use Rattle.lists.specs.Quotient.{rows-below}
 use Rattle.legal.specs.Loop.{loopOf}
-use Rattle.operands.specs.Given.{LinksOf}
 use Rattle.plain.proofs.Laws.{Rounds, rounds-none, rounds-more}
 use Rattle.plain.proofs.iterate_all.Statement.{statement}
 use Rattle.plain.proofs.iterate_all.Tie as tie
