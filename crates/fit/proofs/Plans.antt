@@ -35,10 +35,9 @@ use Rattle.legal.specs.Handed.{Handed}
 use Rattle.knots.specs.Found.{KnotFound}
 use Rattle.judge.specs.Early.{read-early}
 use Rattle.fit.specs.declared.Fitting.{Fitting}
-use Rattle.fit.specs.declared.Plan.{Plan}
 use Rattle.fit.specs.Retimed.{withRetiming, fittedForm, StartsFitted}
 use Rattle.fit.specs.Fitting.{fitOf, fitRecord, fitBuffer, RecordFitted}
-use Rattle.fit.specs.Planned.{Planned}
+use Rattle.fit.specs.Planned.{Plan, Planned}
 use Rattle.fit.specs.Laws.{Told, bare, knot, unfit, units, fits, past-knots, fit-told, fit-none, fitted-written}
 
 -- beside a refusal that no cycle proves none is handed over

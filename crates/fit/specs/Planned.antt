@@ -3,12 +3,19 @@
 use mathlib.Core.Path.{_≡_}
 use mathlib.Core.Bool.{true}
 use Rattle.answer.specs.Refused.{fine}
+use Rattle.answer.specs.declared.Refusal.{Refusal}
+use Rattle.answer.specs.declared.Cycle.{Cycle}
 use Rattle.form.specs.declared.Form.{Form}
 use Rattle.legal.specs.Loop.{loopOf, pairOf}
 use Rattle.legal.specs.Handed.{Handed}
-use Rattle.fit.specs.declared.Plan.{Plan}
 use Rattle.fit.specs.Retimed.{fittedForm}
 use Rattle.fit.specs.Fitting.{fitOf}
+
+-- the refusal with its cycle, and the form to be written where nothing is refused
+pub record Plan : Type 0 where
+  pub refusal : Refusal
+  pub cycle : Cycle
+  pub form : Form
 
 pub record Planned (f : Form) (r : Plan) : Type 0 where
   pub refusal : r .refusal ≡ fitOf f
