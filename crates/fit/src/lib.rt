@@ -8,14 +8,14 @@ ghost use Rattle.lists.specs.Pick.{pick};
 ghost use Rattle.lists.specs.Fold.{top};
 ghost use Rattle.form.specs.Ranges.{WellFormed};
 ghost use Rattle.legal.specs.Loop.{loopOf, pairOf};
-ghost use Rattle.writer.specs.Writing.{written, bufferAfter};
+ghost use Rattle.writer.specs.Writing.{bufferAfter};
 ghost use Rattle.fit.specs.Tables.{Limited, turnedOver, Tabled};
 ghost use Rattle.fit.specs.Retimed.{withRetiming, StartsFitted, TablesFitted};
+ghost use Rattle.fit.specs.Planned.{fittedAnswer};
 ghost use Rattle.fit.specs.Fitting.{RecordFitted};
 use answer::Cycle;
 use answer::Refusal;
 use form::Form;
-use writer::Written;
 
 // The retiming where one fits, all 0 else; the cycle that proves that none does.
 pub struct Fitting {
@@ -111,13 +111,12 @@ fn fit_limits<'a>(
     edges: u16,
     from: &'a [u8; 256],
     to: &'a [u8; 256],
-    gains: &'a [u16; 256],
-    costs: &'a [u16; 256],
+    limits: Limits,
 ) -> Fitting
-    requires { ⌜ Tabled nodes edges (now from) (now to) (now gains) (now costs) ⌝ }
-    ensures { λ r. ⌜ TablesFitted nodes edges (now (from .entry)) (now (to .entry)) (now (gains .entry)) (now (costs .entry)) r ⌝ }
+    requires { ⌜ Tabled nodes edges (now from) (now to) (limits .gains) (limits .costs) ⌝ }
+    ensures { λ r. ⌜ TablesFitted nodes edges (now (from .entry)) (now (to .entry)) (limits .gains) (limits .costs) r ⌝ }
 {
-    let solution = solve::solve(nodes, edges, from, to, gains, costs);
+    let solution = solve::solve(nodes, edges, from, to, &limits.gains, &limits.costs);
     let cycle = solution.cycle;
     if !solution.settled {
         return Fitting {
@@ -141,22 +140,24 @@ pub fn fit_starts(form: Form) -> Fitting
     ensures { λ r. ⌜ StartsFitted (loopOf form) (pairOf form) r ⌝ }
 {
     let limits = limits_of(form);
-    fit_limits(
-        form.nodes,
-        form.edges,
-        &form.from,
-        &form.to,
-        &limits.gains,
-        &limits.costs,
-    )
+    fit_limits(form.nodes, form.edges, &form.from, &form.to, limits)
 }
 
-// The form's record with another retiming, into `out`.
-fn write_fitted(mut form: Form, retiming: [u8; 64], out: &mut [u8]) -> Written
-    ensures { λ r. ⌜ (r ≡ written (withRetiming form retiming) (length (now (out .entry)))) × (now (out .exit) ≡ bufferAfter (withRetiming form retiming) (now (out .entry))) ⌝ }
+// The form's record with the retiming that fits, into `out`.
+fn write_fitted(mut form: Form, fitting: Fitting, out: &mut [u8]) -> Fitted
+    ensures { λ r. ⌜ r ≡ fittedAnswer form fitting (length (now (out .entry))) ⌝ }
+    ensures { λ _. ⌜ now (out .exit) ≡ bufferAfter (withRetiming form (fitting .retiming)) (now (out .entry)) ⌝ }
 {
+    let retiming = fitting.retiming;
     form.retiming = retiming;
-    writer::write(form, out)
+    let written = writer::write(form, out);
+    let refusal = written.refusal;
+    let cycle = fitting.cycle;
+    Fitted {
+        refusal,
+        size: written.size,
+        cycle,
+    }
 }
 
 // A refusal, and the cycle that proves it.
@@ -195,14 +196,7 @@ pub fn fit(record: &[u8], out: &mut [u8]) -> Fitted
         return unfitted(Refusal::Knot, knot);
     }
     let limits = limits_of(read.form);
-    let fitting = fit_limits(
-        nodes,
-        edges,
-        &read.form.from,
-        &read.form.to,
-        &limits.gains,
-        &limits.costs,
-    );
+    let fitting = fit_limits(nodes, edges, &read.form.from, &read.form.to, limits);
     let cycle = fitting.cycle;
     if !fitting.fits {
         return unfitted(Refusal::NoRetiming, cycle);
@@ -211,12 +205,5 @@ pub fn fit(record: &[u8], out: &mut [u8]) -> Fitted
     if !crowded.is_fine() {
         return unfitted(crowded, cycle);
     }
-    let retiming = fitting.retiming;
-    let written = write_fitted(read.form, retiming, out);
-    let refused = written.refusal;
-    Fitted {
-        refusal: refused,
-        size: written.size,
-        cycle,
-    }
+    write_fitted(read.form, fitting, out)
 }

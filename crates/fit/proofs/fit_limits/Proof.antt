@@ -8,31 +8,27 @@ use Rattle.fit.proofs.fit_limits.Tie as tie
 
 solve-requires : tie.Need-solve-requires
 solve-requires c κs =
-    let a = c .args in
-    let d = c .pre .1 in (
-      tables-bounds _ _ _ (a .from .now) (a .to .now) (a .gains .now) (a .costs .now) d,
-      tables-joined _ _ _ (a .from .now) (a .to .now) (a .gains .now) (a .costs .now) d,
-    )
+    let begun = c .before .before .before in
+    let d = begun .pre .1 in
+    (tables-bounds _ _ _ _ _ _ _ d, tables-joined _ _ _ _ _ _ _ d)
 
 returns : tie.Need-returns
 returns c f d = tables-unfit f _ _ _ _ _ _ d _ (c .before .before .solve .ensures) (not-true _ (c .if1 .taken))
 
 top-of-requires : tie.Need-top-of-requires
 top-of-requires c κs =
-    let begun = c .before .before .before .before .before in
-    let a = begun .args in
-    tables-bounds _ _ _ (a .from .now) (a .to .now) (a .gains .now) (a .costs .now) (begun .pre .1) .1
+    let begun = c .before .before .before .before .before .before .before .before in
+    tables-bounds _ _ _ _ _ _ _ (begun .pre .1) .1
 
 turned-requires : tie.Need-turned-requires
 turned-requires c κs =
     let u = c .before .before .before .before .before .before .before in
-    let a = u .before .args in
-    let d = u .before .pre .1 in
+    let d = u .before .before .before .before .pre .1 in
     let h = c .before .before .top-of .ensures in
     let settled = not-false _ (c .before .before .before .before .before .if1 .left) in (
       (
-        tables-bounds _ _ _ (a .from .now) (a .to .now) (a .gains .now) (a .costs .now) d .1,
-        tables-top _ _ _ (a .from .now) (a .to .now) (a .gains .now) (a .costs .now) d _ (u .solve .ensures) settled _ h,
+        tables-bounds _ _ _ _ _ _ _ d .1,
+        tables-top _ _ _ _ _ _ _ d _ (u .solve .ensures) settled _ h,
       ),
       under-top _ _ _ h,
     )

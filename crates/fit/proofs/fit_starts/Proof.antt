@@ -10,12 +10,12 @@ limits-of-requires c κs = search needs
 
 fit-limits-requires : tie.Need-fit-limits-requires
 fit-limits-requires c κs =
-    let l = c .before .before .before .before .before .before in
+    let l = c .before .before .before in
     (l .before .args .t1, described-form _ (l .before .pre .0) _ _ (l .limits-of .ensures))
 
 returns : tie.Need-returns
 returns c =
-    let l = c .before .before .before .before .before .before .before in
+    let l = c .before .before .before .before in
     c .fit-limits .ensures _ (described-form _ (l .before .pre .0) _ _ (l .limits-of .ensures))
 
 pub fit-starts-spec : {M : Type 1} → statement M

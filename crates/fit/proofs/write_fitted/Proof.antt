@@ -2,6 +2,7 @@
 -- Assumes nothing.
 use borrow.Author.Needs.{needs}
 use Rattle.fit.specs.Retimed.{withRetiming}
+use Rattle.fit.specs.Planned.{fittedAnswer}
 use Rattle.fit.proofs.write_fitted.Statement.{statement}
 use Rattle.fit.proofs.write_fitted.Tie as tie
 
@@ -12,8 +13,10 @@ same-length : tie.Need-same-length
 same-length c = search needs
 
 returns : tie.Need-returns
-unfolding withRetiming
-returns c = c .before .before .write .ensures
+unfolding fittedAnswer withRetiming
+returns c =
+    let w = c .before .before .before .write .ensures in
+    (rw (w .0), w .1)
 
 pub write-fitted-spec : {M : Type 1} → statement M
 write-fitted-spec = tie.close (tie.spec write-requires same-length returns)
