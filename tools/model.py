@@ -203,15 +203,20 @@ def shortest_pace(form):
     raise ValueError("a loop without a knot settles by 512")
 
 
-def floor(form):
-    """The floor, its part (1 a, 2 b, 3 c), the class for b, the cycle for c."""
+def floor_parts(form):
+    """Part a, part b for each class, and part c."""
     knot(form)
     a = max(form.latency(v) for v in range(len(form.nodes)))
     b = []
     for c, (latency, free, pipelined) in enumerate(form.classes):
         on = sum(1 for row in form.nodes if row[0] == c)
         b.append(-(-on * (1 if pipelined else latency) // free))
-    c = shortest_pace(form)
+    return a, b, shortest_pace(form)
+
+
+def floor(form):
+    """The floor, its part (1 a, 2 b, 3 c), the class for b, the cycle for c."""
+    a, b, c = floor_parts(form)
     best = max(a, max(b), c)
     if a == best:
         return best, 1, 0, []
