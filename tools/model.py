@@ -305,12 +305,16 @@ def search(form, count, size):
     if size == 0:
         raise Refused(SIZE, 0)
     here = best = first(form)
-    done, z = 0, size
+    done, z, met = 0, size, set()
     while done < count:
         while z >= here.length:
             z //= 2
         if z == 0:
             break
+        state = z, *here.starts, *here.retimings
+        if state in met:
+            return best, count  # from here on it goes round, with nothing new
+        met.add(state)
         try:
             here = turned(here, z)
         except Refused:
