@@ -6,6 +6,7 @@
 
 Run from the repository's root, after tools/examples.py."""
 
+import re
 import subprocess
 import sys
 
@@ -24,8 +25,7 @@ class Program:
         return subprocess.run(["bin/rsk", *map(str, words)], input=record, stdout=subprocess.PIPE, check=True).stdout
 
     def floor(self, record):
-        words = self.ask(record, "floor").decode().split()
-        return next(int(word) for word in words if word.isdigit())
+        return int(re.search(rb"\d+", self.ask(record, "floor")).group())
 
     def first(self, record):
         return self.ask(record, "first")
