@@ -21,15 +21,14 @@ use Rattle.answer.specs.Refused.{fine}
 use Rattle.answer.specs.declared.Refusal.{Refusal}
 use Rattle.answer.specs.declared.Refusal.the-variants.{None}
 use Rattle.form.specs.declared.Form.{Form}
-use Rattle.form.specs.declared.Class.{Class}
 use Rattle.form.specs.Places.{classOf, nodeOf, startOf, retimingOf}
 use Rattle.form.specs.Ranges.{WellFormed}
-use Rattle.legal.specs.Loop.{Loop, Pair, graphOf, loopOf, pairOf, runsOn}
-use Rattle.legal.specs.Shape.{Sound, Placed, sound-form, placed-form}
+use Rattle.legal.specs.Loop.{Loop, Pair, graphOf, loopOf, pairOf}
+use Rattle.legal.specs.Shape.{sound-form, placed-form}
 use Rattle.machine.specs.Run.{Machine, depth, issues, issue, visit, iteration}
-use Rattle.machine.specs.Moments.{repOf, issueStep, under-depth}
+use Rattle.machine.specs.Moments.{repOf, issueStep}
 use Rattle.operands.specs.Links.{Links}
-use Rattle.operands.specs.Tables.{HasRoom, Fits, Tells, Follows}
+use Rattle.operands.specs.Tables.{Fits, Tells, Follows}
 use Rattle.run.specs.Order.{Rising, order-rising, order-length}
 use Rattle.run.specs.Repeat.{order, stepIn, visitIn, repeated, visits-stay}
 use Rattle.run.specs.Units.{Boarded, Point, point-later}

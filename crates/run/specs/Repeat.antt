@@ -1,21 +1,21 @@
 -- A run, repetition by repetition: in each the nodes in the order of their starts, and what is refused stays.
 -- Assumes nothing.
 use mathlib.Core.Path.{_≡_, refl, sym, _∙_, ap, ap₂, subst}
-use mathlib.Core.Bool.{Bool, true, false, _&&_}
+use mathlib.Core.Bool.{false}
 use mathlib.Core.Logic.{_≢_}
 use mathlib.Core.List.{List, [], _∷_, _++_}
-use Prim.Native.Nat.{ℕ, zero, suc, _+_, _-_, _*_, _/_, _%_, _≤_, _<_}
+use Prim.Native.Nat.{ℕ, zero, suc, _+_, _-_, _*_, _%_, _≤_}
 use native.Mathlib.Omega.{arith}
 use native.Mathlib.Nat.{add-zero, zero-add, add-suc, suc-add, suc-mul, zero-mul}
 use borrow.Author.Tests.{eqb-true, eqb-false, ne-eqb}
 use lib.Dec.{eqb}
-use Rattle.lists.specs.Pick.{pick, pick-ind, pick-true, pick-false}
+use Rattle.lists.specs.Pick.{pick-ind, pick-false}
 use Rattle.lists.specs.Span.{span}
 use Rattle.lists.specs.Fold.{fold, fold-snoc}
 use Rattle.lists.specs.Quotient.{divided}
 use Rattle.answer.specs.Refused.{fine}
 use Rattle.legal.specs.Loop.{Loop, Pair}
-use Rattle.machine.specs.Run.{Machine, depth, bodyStep, issues, issue, visit, stepOf, runSteps, ran}
+use Rattle.machine.specs.Run.{Machine, bodyStep, issues, issue, visit, stepOf, ran}
 use Rattle.machine.specs.Visits.{stays}
 use Rattle.run.specs.Order.{startersFrom, orderFrom}
 
