@@ -19,20 +19,20 @@ pub struct Kind {
 }
 
 pub const KINDS: [Kind; 14] = [
-    Kind { name: "loops of 1 to 3 nodes", times: 60_000, make: tiny },
-    Kind { name: "loops of 4 to 10 nodes", times: 60_000, make: small },
-    Kind { name: "loops of 11 to 24 nodes", times: 12_000, make: medium },
-    Kind { name: "loops of 25 to 64 nodes", times: 3_000, make: large },
-    Kind { name: "loops of 64 nodes and 256 edges", times: 800, make: largest },
-    Kind { name: "long chains of long operations", times: 1_500, make: long },
+    Kind { name: "loops of 1 to 3 nodes", times: 100_000, make: tiny },
+    Kind { name: "loops of 4 to 10 nodes", times: 100_000, make: small },
+    Kind { name: "loops of 11 to 24 nodes", times: 20_000, make: medium },
+    Kind { name: "loops of 25 to 64 nodes", times: 5_000, make: large },
+    Kind { name: "loops of 64 nodes and 256 edges", times: 1_500, make: largest },
+    Kind { name: "long chains of long operations", times: 2_500, make: long },
     Kind { name: "damaged records", times: 80_000, make: damaged },
     Kind { name: "every byte at its bounds", times: 120, make: bounds },
     Kind { name: "every truncation, and bytes added", times: 300, make: cut },
     Kind { name: "bytes that are no record", times: 30_000, make: noise },
     Kind { name: "every size of a buffer", times: 250, make: rooms },
-    Kind { name: "runs of up to some hundred iterations", times: 12_000, make: runs },
-    Kind { name: "runs of 65,535 iterations", times: 40, make: long_runs },
-    Kind { name: "long searches", times: 40, make: long_searches },
+    Kind { name: "runs of up to some hundred iterations", times: 20_000, make: runs },
+    Kind { name: "runs of 65,535 iterations", times: 60, make: long_runs },
+    Kind { name: "long searches", times: 60, make: long_searches },
 ];
 
 fn with_any_pair(random: &mut Random, body: &Loop) -> Vec<u8> {

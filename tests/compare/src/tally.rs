@@ -15,6 +15,8 @@ pub struct Tally {
     parts: [u64; 4],
     /// Listings that say shortest, open and refused.
     listings: [u64; 3],
+    /// Searches that ended before their count although the pair at hand could still be rotated: by Long.
+    ended_long: u64,
     cycles: u64,
     judged: u64,
     ran: u64,
@@ -38,6 +40,12 @@ fn possible(entry: Entry) -> Vec<usize> {
     (0..=10).chain(own.iter().copied()).collect()
 }
 
+/// A search ends early where the length is 1, which is then the answer's, and by Long.
+fn ended_long(call: &Call, left: &Buffers) -> bool {
+    let length = u16::from_le_bytes([left.out()[9], left.out()[10]]);
+    left.answer()[2] < u32::from(call.count) && length > 1
+}
+
 impl Tally {
     pub fn record(&mut self, kind: usize) {
         self.records[kind] += 1;
@@ -50,6 +58,7 @@ impl Tally {
         self.cycles += u64::from(answer[4] > 0);
         match (call.entry, answer[0]) {
             (Entry::Floor, 0) => self.parts[answer[2] as usize] += 1,
+            (Entry::Search, 0) => self.ended_long += u64::from(ended_long(call, left)),
             (Entry::List, 0) => self.listing(&left.out()[..answer[1] as usize]),
             _ => {}
         }
@@ -78,6 +87,7 @@ impl Tally {
         pairs.extend(self.answers.iter_mut().flatten().zip(other.answers.iter().flatten()));
         pairs.extend(self.parts.iter_mut().zip(&other.parts));
         pairs.extend(self.listings.iter_mut().zip(&other.listings));
+        pairs.push((&mut self.ended_long, &other.ended_long));
         pairs.push((&mut self.cycles, &other.cycles));
         pairs.push((&mut self.judged, &other.judged));
         pairs.push((&mut self.ran, &other.ran));
@@ -105,6 +115,7 @@ impl Tally {
         let [shortest, open, refused] = self.listings;
         println!("listings shortest {shortest}, open {open}, refused {refused}");
         println!("cycles checked {}; written records judged {}", self.cycles, self.judged);
+        println!("searches ended by Long {}", self.ended_long);
         println!("legal runs held to the plain loop {}; refused runs stuck {}", self.ran, self.stuck);
     }
 
@@ -129,6 +140,9 @@ impl Tally {
         }
         want(self.cycles, "no cycle was checked".into());
         want(self.judged, "no written record was judged".into());
+        if Entry::Search.is_linked() {
+            want(self.ended_long, "no search was ended by Long".into());
+        }
         if Entry::Run.is_linked() {
             want(self.ran, "no legal run was held to the plain loop".into());
             want(self.stuck, "no refused run was stuck".into());

@@ -11,6 +11,9 @@ pub const MOST_LENGTH: i64 = 512;
 pub const MOST_DELAYS: i64 = 15;
 pub const MOST_RETIMING: i64 = 63;
 
+/// The size of the largest record.
+pub const MOST_BYTES: usize = 1_367;
+
 #[derive(Clone, Copy, Debug, PartialEq, Eq)]
 pub struct Class {
     pub latency: i64,
@@ -187,6 +190,15 @@ fn within(value: i64, range: RangeInclusive<i64>, refusal: Refusal) -> Result<i6
     }
 }
 
+/// So many of one thing after another.
+fn list<T>(count: i64, mut one: impl FnMut() -> Result<T, Refusal>) -> Result<Vec<T>, Refusal> {
+    let mut list = Vec::with_capacity(count as usize);
+    for _ in 0..count {
+        list.push(one()?);
+    }
+    Ok(list)
+}
+
 /// Takes the fields in layout order; refusals 1 to 10.
 pub fn read(bytes: &[u8]) -> Result<Record, Refusal> {
     let mut cursor = Cursor { bytes, place: 0 };
@@ -199,9 +211,9 @@ pub fn read(bytes: &[u8]) -> Result<Record, Refusal> {
     let node_count = cursor.byte(1..=MOST_NODES, Refusal::Count)?;
     let edge_count = cursor.half_word(0..=MOST_EDGES, Refusal::Count)?;
     let length = cursor.half_word(0..=MOST_LENGTH, Refusal::Count)?;
-    let classes = (0..class_count).map(|_| cursor.class()).collect::<Result<Vec<_>, _>>()?;
-    let nodes = (0..node_count).map(|_| cursor.node(class_count)).collect::<Result<Vec<_>, _>>()?;
-    let edges = (0..edge_count).map(|_| cursor.edge(node_count)).collect::<Result<Vec<_>, _>>()?;
+    let classes = list(class_count, || cursor.class())?;
+    let nodes = list(node_count, || cursor.node(class_count))?;
+    let edges = list(edge_count, || cursor.edge(node_count))?;
     let body = Loop { classes, nodes, edges };
     let pair = if length == 0 { None } else { Some(cursor.pair(&body, length)?) };
     if cursor.place < bytes.len() {
@@ -212,7 +224,8 @@ pub fn read(bytes: &[u8]) -> Result<Record, Refusal> {
 
 /// The bytes of a loop with a pair or without.
 pub fn bytes_of(body: &Loop, pair: Option<&Pair>) -> Vec<u8> {
-    let mut bytes = b"RSK\x01\x00".to_vec();
+    let mut bytes = Vec::with_capacity(MOST_BYTES);
+    bytes.extend(b"RSK\x01\x00");
     bytes.push(body.classes.len() as u8);
     bytes.push(body.nodes.len() as u8);
     bytes.extend((body.edges.len() as u16).to_le_bytes());
