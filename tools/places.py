@@ -25,7 +25,7 @@ def main():
     crate, function, wanted = sys.argv[1], sys.argv[2], sys.argv[3:]
     folder = f"target/gen-{crate}"
     if not os.environ.get("KEEP"):
-        subprocess.run(["rt", "dev", crate, "--allow-holes", "--generated", folder], stdout=subprocess.DEVNULL, stderr=subprocess.DEVNULL)
+        subprocess.run(["rt", "dev", crate, "--generated", folder], stdout=subprocess.DEVNULL, stderr=subprocess.DEVNULL)
     path = f"{folder}/Rattle.{crate}.proofs/proofs/{function}/Lts.antt"
     text = open(path).read()
     places = records(text)

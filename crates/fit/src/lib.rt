@@ -163,7 +163,7 @@ fn plan_of(form: Form) -> Plan
             form,
         };
     }
-    let knot = knots::knot_of(form);
+    let knot = knots::knot_of(form.nodes, form.edges, &form.from, &form.to, &form.delays);
     if 0 < knot.count {
         return Plan {
             refusal: Refusal::Knot,

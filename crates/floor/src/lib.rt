@@ -322,7 +322,7 @@ pub fn floor_form(form: Form) -> Floored
     requires { ⌜ WellFormed form ⌝ }
     ensures { λ r. ⌜ FormFloored form r ⌝ }
 {
-    let knot = knots::knot_of(form);
+    let knot = knots::knot_of(form.nodes, form.edges, &form.from, &form.to, &form.delays);
     if 0 < knot.count {
         return Floored {
             refusal: Refusal::Knot,

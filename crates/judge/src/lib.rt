@@ -47,7 +47,7 @@ pub fn judge_form(form: Form) -> Judged
     if form.length == 0 {
         return alone(Refusal::Bare);
     }
-    let knot = knots::knot_of(form);
+    let knot = knots::knot_of(form.nodes, form.edges, &form.from, &form.to, &form.delays);
     if 0 < knot.count {
         return Judged {
             refusal: Refusal::Knot,

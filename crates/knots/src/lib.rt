@@ -2,11 +2,15 @@
 ghost use mathlib.Core.Path.{_≡_};
 ghost use Prim.Native.Nat.{ℕ, _*_, _≤_, _<_};
 ghost use lib.ListN.{getD};
-ghost use Rattle.form.specs.Ranges.{WellFormed};
-ghost use Rattle.legal.specs.Loop.{loopOf};
-ghost use Rattle.knots.specs.Found.{KnotFound};
+ghost use Rattle.legal.specs.Loop.{Loop};
+ghost use Rattle.knots.specs.Found.{Ends, Told, KnotFound, RanksFound};
 use answer::Cycle;
-use form::Form;
+
+// A knot, or no cycle and then a rank for each node: nodes in their order never read a later one of the same iteration.
+pub struct Ranking {
+    pub cycle: Cycle,
+    pub rank: [u32; 64],
+}
 
 // A byte as a u16; the bound spares each use a proof.
 fn wide(x: u8) -> u16
@@ -29,13 +33,36 @@ fn gains_of(edges: u16, delays: &[u8; 256]) -> [u16; 256]
     gains
 }
 
-// No cycle where the loop has no knot, else a knot.
-pub fn knot_of(form: Form) -> Cycle
-    requires { ⌜ WellFormed form ⌝ }
-    ensures { λ r. ⌜ KnotFound (loopOf form) r ⌝ }
+// A knot where the loop has one; else no cycle, and ranks that rise along every edge of delay 0.
+pub fn ranked<'a>(
+    nodes: u8,
+    edges: u16,
+    from: &'a [u8; 256],
+    to: &'a [u8; 256],
+    delays: &'a [u8; 256],
+) -> Ranking
+    requires { ⌜ Ends nodes edges (now from) (now to) ⌝ }
+    ensures { λ r. ⌜ ((g : Loop) → Told g nodes edges (now (from .entry)) (now (to .entry)) (now (delays .entry)) → RanksFound g r) ⌝ }
 {
-    let gains = gains_of(form.edges, &form.delays);
+    let gains = gains_of(edges, delays);
     let costs = [1u16; 256];
-    let solution = solve::solve(form.nodes, form.edges, &form.from, &form.to, &gains, &costs);
-    solution.cycle
+    let solution = solve::solve(nodes, edges, from, to, &gains, &costs);
+    let cycle = solution.cycle;
+    let rank = solution.values;
+    Ranking { cycle, rank }
+}
+
+// No cycle where the loop has no knot, else a knot.
+pub fn knot_of<'a>(
+    nodes: u8,
+    edges: u16,
+    from: &'a [u8; 256],
+    to: &'a [u8; 256],
+    delays: &'a [u8; 256],
+) -> Cycle
+    requires { ⌜ Ends nodes edges (now from) (now to) ⌝ }
+    ensures { λ r. ⌜ ((g : Loop) → Told g nodes edges (now (from .entry)) (now (to .entry)) (now (delays .entry)) → KnotFound g r) ⌝ }
+{
+    let ranking = ranked(nodes, edges, from, to, delays);
+    ranking.cycle
 }

@@ -4,13 +4,13 @@ use mathlib.Core.Path.{_≡_, refl, sym, ap, _∙_}
 use mathlib.Core.Bool.{Bool, true, false, not, true≢false}
 use mathlib.Core.Logic.{⊎-elim}
 use mathlib.Core.List.{List}
-use Prim.Native.Nat.{ℕ, _*_}
+use Prim.Native.Nat.{ℕ, _*_, _≤_}
 use native.Mathlib.Omega.{arith}
 use native.Mathlib.Nat.{eq-zero-or-pos, mul-one, mul-zero}
 use borrow.Author.Tests.{not-true}
 use lib.ListN.{length}
 use Rattle.lists.specs.Fold.{sumOf, sum-times, sum-ones}
-use Rattle.system.specs.Graph.{stop}
+use Rattle.system.specs.Graph.{Joined, stop}
 use Rattle.system.specs.System.{System, Solves, gains, costs, Losing, LosingWalk}
 use Rattle.system.specs.Walks.{along}
 use Rattle.system.specs.Laws.{unsettled-loses, loses-unsettled}
@@ -35,10 +35,10 @@ module _ (g : Loop) where
   knots-costs es = sum-ones es
 
   -- a losing cycle of the system of knots is a knot: it has at most 64 edges, and a delay gains as much
-  pub losing-knot : Sound g → (es : List ℕ) → Losing (knots g) es → Knot g es
+  pub losing-knot : Joined (g .graph) → g .graph .nodes ≤ 64 → (es : List ℕ) → Losing (knots g) es → Knot g es
   unfolding knots
-  losing-knot s es c =
-      record { cycle = c .cycle; still = omega (arith, c .loss, knots-gains es, knots-costs es, cycle-few (g .graph) (s .joined) es (c .cycle), s .few) }
+  losing-knot j few es c =
+      record { cycle = c .cycle; still = omega (arith, c .loss, knots-gains es, knots-costs es, cycle-few (g .graph) j es (c .cycle), few) }
 
   knot-loses : (es : List ℕ) → Knot g es → LosingWalk (knots g) es
   unfolding knots
@@ -59,7 +59,7 @@ module _ (g : Loop) where
   knotted-knot s q =
       let w = unsettled-loses (knots g) (s .joined) (s .some) (s .few) (not-true _ q) in
       let c = losing-cycle (knots g) (w .0) (w .1) in
-      (c .0, losing-knot s (c .0) (c .1))
+      (c .0, losing-knot (s .joined) (s .few) (c .0) (c .1))
 
   -- a loop without a knot is not knotted
   pub free-unknotted : Sound g → Free g → knotted g ≡ false

@@ -38,7 +38,7 @@ use Rattle.rotation.specs.FirstLaws.{first-written}
 use Rattle.rotation.specs.Scheduling.{scheduleRecord, RecordScheduled, Planned, PlanWritten, firstAsked, unturned}
 
 -- beside a refusal that no cycle proves none is handed over
-handed-none : (g : Loop) (p : Pair) (r : Refusal) (c : Cycle) → numberOf r ≢ 12 → numberOf r ≢ 14 → c ≡ noCycle → Handed g p r c
+pub handed-none : (g : Loop) (p : Pair) (r : Refusal) (c : Cycle) → numberOf r ≢ 12 → numberOf r ≢ 14 → c ≡ noCycle → Handed g p r c
 handed-none g p r c unknotted fitting e = record {
   knot = λ k. absurd (unknotted (ap numberOf k));
   impossible = λ k. absurd (fitting (ap numberOf k));

@@ -3,3 +3,4 @@ pub mod Firsts
 pub mod Entries
 pub mod Turns
 pub mod Rotations
+pub mod Rotates

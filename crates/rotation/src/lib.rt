@@ -15,7 +15,7 @@ ghost use Rattle.list_rule.specs.Tables.{numbersOf};
 ghost use Rattle.list_rule.specs.Turned.{gainedBy, droppedBy};
 ghost use Rattle.rotation.specs.Pairs.{withPair};
 ghost use Rattle.rotation.specs.Rotation.{firstForm, turnedForm, rotatedOr};
-ghost use Rattle.rotation.specs.Scheduling.{firstAsked, unturned, Planned, PlanWritten, RecordScheduled};
+ghost use Rattle.rotation.specs.Scheduling.{firstAsked, unturned, turns, rotateAsked, rotatedBy, Planned, PlanWritten, RecordScheduled};
 use answer::Cycle;
 use answer::Refusal;
 use form::BodyStep;
@@ -194,7 +194,7 @@ fn first_plan(form: Form) -> Plan
     requires { ⌜ WellFormed form ⌝ }
     ensures { λ r. ⌜ Planned firstAsked firstForm unturned form r ⌝ }
 {
-    let knot = knots::knot_of(form);
+    let knot = knots::knot_of(form.nodes, form.edges, &form.from, &form.to, &form.delays);
     if 0 < knot.count {
         return Plan {
             refusal: Refusal::Knot,
@@ -227,4 +227,73 @@ pub fn first(record: &[u8], out: &mut [u8]) -> Scheduled
     }
     let form = read.form;
     write_plan(first_plan(form), out)
+}
+
+// Whether a body of this length can be rotated by so many steps.
+fn turns_by(steps: u16, length: u16) -> bool
+    ensures { λ b. ⌜ b ≡ turns steps length ⌝ }
+{
+    if steps == 0 {
+        return false;
+    }
+    steps < length
+}
+
+// What the judge refuses, then Size, then Long; else the form rotated.
+fn rotate_plan(form: Form, steps: u16) -> Plan
+    requires { ⌜ WellFormed form ⌝ }
+    ensures { λ r. ⌜ Planned (rotateAsked steps) (rotatedBy steps) unturned form r ⌝ }
+{
+    let judged = judge::judge_form(form);
+    let unjudged = judged.refusal;
+    let cycle = judged.cycle;
+    if !unjudged.is_fine() {
+        return Plan {
+            refusal: unjudged,
+            rotations: 0,
+            cycle,
+            form,
+        };
+    }
+    if !turns_by(steps, form.length) {
+        return Plan {
+            refusal: Refusal::Size(steps as u32),
+            rotations: 0,
+            cycle,
+            form,
+        };
+    }
+    let turned = rotate_form(form, steps);
+    if 512 < turned.length {
+        return Plan {
+            refusal: Refusal::Long,
+            rotations: 0,
+            cycle,
+            form,
+        };
+    }
+    Plan {
+        refusal: Refusal::None,
+        rotations: 0,
+        cycle,
+        form: turned,
+    }
+}
+
+// The record rotated by so many steps, into `out`; a refusal leaves `out` as it was.
+pub fn rotate(record: &[u8], steps: u16, out: &mut [u8]) -> Scheduled
+    ensures { λ r. ⌜ RecordScheduled (rotateAsked steps) (rotatedBy steps) unturned (now («record» .entry)) (now (out .entry)) (now (out .exit)) r ⌝ }
+{
+    let read = reader::read(record);
+    let refused = read.refusal;
+    if !refused.is_fine() {
+        return Scheduled {
+            refusal: refused,
+            size: 0,
+            rotations: 0,
+            cycle: Cycle::none(),
+        };
+    }
+    let form = read.form;
+    write_plan(rotate_plan(form, steps), out)
 }

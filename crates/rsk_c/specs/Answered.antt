@@ -12,6 +12,9 @@ use Rattle.judge.specs.declared.Judged.{Judged}
 use Rattle.judge.specs.Judgement.{RecordJudgement}
 use Rattle.fit.specs.declared.Fitted.{Fitted}
 use Rattle.fit.specs.Fitting.{RecordFitted}
+use Rattle.rotation.specs.declared.Scheduled.{Scheduled}
+use Rattle.rotation.specs.Rotation.{firstForm}
+use Rattle.rotation.specs.Scheduling.{RecordScheduled, firstAsked, unturned, rotateAsked, rotatedBy}
 use Rattle.floor.specs.declared.Floored.{Floored}
 use Rattle.floor.specs.Floor.{partNumber, partClass, RecordFloored}
 
@@ -29,6 +32,16 @@ JudgeAnswered s = Answered Judged (RecordJudgement s) (λ j. j .refusal) (λ j. 
 -- a record fitted: its size
 abbrev pub FitAnswered : List ℕ → List ℕ → List ℕ → ℕ → List ℕ → Type 0
 FitAnswered s out after = Answered Fitted (RecordFitted s out after) (λ f. f .refusal) (λ f. details (f .size) 0 0) (λ f. f .cycle)
+
+-- a record with its first schedule: its size
+abbrev pub FirstAnswered : List ℕ → List ℕ → List ℕ → ℕ → List ℕ → Type 0
+FirstAnswered s out after =
+    Answered Scheduled (RecordScheduled firstAsked firstForm unturned s out after) (λ x. x .refusal) (λ x. details (x .size) 0 0) (λ x. x .cycle)
+
+-- a record rotated by z steps: its size
+abbrev pub RotateAnswered : ℕ → List ℕ → List ℕ → List ℕ → ℕ → List ℕ → Type 0
+RotateAnswered z s out after =
+    Answered Scheduled (RecordScheduled (rotateAsked z) (rotatedBy z) unturned s out after) (λ x. x .refusal) (λ x. details (x .size) 0 0) (λ x. x .cycle)
 
 -- the floor of a record: the floor, its part's number, and the class for part b
 abbrev pub FloorAnswered : List ℕ → ℕ → List ℕ → Type 0

@@ -3,7 +3,7 @@ ghost use mathlib.Core.Path.{_≡_};
 ghost use lib.ListN.{length};
 ghost use Rattle.answer.specs.Refused.{numberOf};
 ghost use Rattle.rsk_c.specs.Rewrite.{rewritten, rewrittenOut, rewrittenAnswer};
-ghost use Rattle.rsk_c.specs.Answered.{JudgeAnswered, FitAnswered, FloorAnswered};
+ghost use Rattle.rsk_c.specs.Answered.{JudgeAnswered, FitAnswered, FirstAnswered, RotateAnswered, FloorAnswered};
 ghost use Rattle.rsk_c.specs.List.{listedAnswer};
 ghost use Rattle.listing.specs.Lines.{listed, listedBuffer};
 use answer::Cycle;
@@ -54,6 +54,38 @@ pub extern "C" fn rsk_fit(record: &[u8], out: &mut [u8], answer: &mut [u32; 69])
         answer,
         refusal,
         answer::numbers_of(fitted.size, 0, 0),
+        cycle,
+    )
+}
+
+// The record with its first schedule; its size.
+#[no_mangle]
+pub extern "C" fn rsk_first(record: &[u8], out: &mut [u8], answer: &mut [u32; 69]) -> u32
+    ensures { λ r. ⌜ FirstAnswered (now («record» .entry)) (now (out .entry)) (now (out .exit)) r (now (answer .exit)) ⌝ }
+{
+    let scheduled = rotation::first(record, out);
+    let refusal = scheduled.refusal;
+    let cycle = scheduled.cycle;
+    answer::fill(
+        answer,
+        refusal,
+        answer::numbers_of(scheduled.size, 0, 0),
+        cycle,
+    )
+}
+
+// The record rotated by z steps; its size.
+#[no_mangle]
+pub extern "C" fn rsk_rotate(record: &[u8], z: u16, out: &mut [u8], answer: &mut [u32; 69]) -> u32
+    ensures { λ r. ⌜ RotateAnswered z (now («record» .entry)) (now (out .entry)) (now (out .exit)) r (now (answer .exit)) ⌝ }
+{
+    let rotated = rotation::rotate(record, z, out);
+    let refusal = rotated.refusal;
+    let cycle = rotated.cycle;
+    answer::fill(
+        answer,
+        refusal,
+        answer::numbers_of(rotated.size, 0, 0),
         cycle,
     )
 }

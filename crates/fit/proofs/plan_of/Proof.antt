@@ -3,6 +3,7 @@
 use borrow.Author.Tests.{not-true, not-false}
 use Rattle.fit.proofs.Plans.{plan-bare, plan-knot, plan-unfit, plan-fits}
 use borrow.Author.Needs.{needs}
+use Rattle.knots.specs.Found.{ends-form, told-form}
 use Rattle.fit.proofs.plan_of.Statement.{statement}
 use Rattle.fit.proofs.plan_of.Tie as tie
 
@@ -13,10 +14,12 @@ returns : tie.Need-returns
 returns c = plan-bare _ (c .before .if1 .taken) _ (c .none .ensures)
 
 knot-of-requires : tie.Need-knot-of-requires
-knot-of-requires c κs = search needs
+knot-of-requires c κs = ends-form _ (c .before .before .before .before .before .pre)
 
 returns-2 : tie.Need-returns-2
-returns-2 c = plan-knot _ (c .before .before .before .if1 .left) _ (c .before .before .knot-of .ensures) (c .if2 .taken)
+returns-2 c =
+    let k = c .before .before in
+    plan-knot _ (k .before .before .before .before .before .if1 .left) _ (k .knot-of .ensures _ (told-form _)) (c .if2 .taken)
 
 fit-starts-requires : tie.Need-fit-starts-requires
 fit-starts-requires c κs = search needs
@@ -25,7 +28,7 @@ returns-3 : tie.Need-returns-3
 returns-3 c =
     let t = c .before .before .before in
     let k = t .before .before .before in
-    plan-unfit _ (k .before .if1 .left) _ (k .knot-of .ensures) (t .before .if2 .left) _ (t .fit-starts .ensures) (not-true _ (c .if3 .taken))
+    plan-unfit _ (k .before .before .before .before .before .if1 .left) _ (k .knot-of .ensures _ (told-form _)) (t .before .if2 .left) _ (t .fit-starts .ensures) (not-true _ (c .if3 .taken))
 
 crowded-requires : tie.Need-crowded-requires
 crowded-requires c κs = search needs
@@ -37,7 +40,7 @@ returns-4 : tie.Need-returns-4
 returns-4 c =
     let t = c .before .before .before .before .before .before in
     let k = t .before .before .before in
-    plan-fits _ (k .before .if1 .left) _ (k .knot-of .ensures) (t .before .if2 .left) _ (t .fit-starts .ensures) (not-false _ (c .before .before .before .if3 .left)) _
+    plan-fits _ (k .before .before .before .before .before .if1 .left) _ (k .knot-of .ensures _ (told-form _)) (t .before .if2 .left) _ (t .fit-starts .ensures) (not-false _ (c .before .before .before .if3 .left)) _
     (c .before .crowded .ensures) _ (c .with-retiming .ensures)
 
 pub plan-of-spec : {M : Type 1} → statement M

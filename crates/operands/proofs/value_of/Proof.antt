@@ -1,0 +1,81 @@
+-- `operands::value_of` meets its contract: the operands that are left finish the whole.
+-- Assumes nothing.
+use mathlib.Core.Path.{_≡_, sym, _∙_, ap, subst}
+use Prim.Native.Nat.{ℕ, _-_, _≤_, _<_}
+use native.Mathlib.Omega.{arith}
+use lib.ListN.{getD}
+use borrow.Author.Needs.{needs}
+use Rattle.legal.specs.Loop.{Loop}
+use Rattle.operands.specs.Combined.{combined}
+use Rattle.operands.specs.Tables.{Tells, Follows}
+use Rattle.operands.proofs.Laws.{Walking, walking-first, walking-next, walking-end, handed-operand}
+use Rattle.operands.proofs.value_of.Statement.{statement}
+use Rattle.operands.proofs.value_of.Tie as tie
+
+abbrev Inv-loop : tie.InvT-loop
+Inv-loop operation first nodes edges iteration from delays next starts values total₀ begun₀ e₀ total begun e =
+    (e ≤ edges)
+    × ((g : Loop) (v : ℕ) → Tells g nodes edges from delays → Follows g v operation first next → Walking g v operation starts values (iteration .0) e begun total)
+
+abbrev μ-loop : tie.MeasureT-loop
+μ-loop operation first nodes edges iteration from delays next starts values total₀ begun₀ e₀ total begun e = edges - e
+
+opening-of-requires : tie.Need-opening-of-requires Inv-loop μ-loop
+opening-of-requires c κs = search needs
+
+loop-holds : tie.Need-loop-holds Inv-loop μ-loop
+loop-holds c = (c .before .before .before .pre .2, λ g v t f. rw (c .opening-of .ensures) (walking-first g v _ _ _ _ _ _ f))
+
+cast-i : tie.Need-cast-i Inv-loop μ-loop
+cast-i c = search needs
+
+element-copy-out-operand-of : tie.Need-element-copy-out-operand-of Inv-loop μ-loop
+element-copy-out-operand-of c = omega (arith, c .before .before .before .before .before .pre .0 .few)
+
+element-copy-out-operand-of-2 : tie.Need-element-copy-out-operand-of-2 Inv-loop μ-loop
+element-copy-out-operand-of-2 c = omega (arith, c .before .before .before .before .before .before .pre .0 .few)
+
+operand-of-requires : tie.Need-operand-of-requires Inv-loop μ-loop
+operand-of-requires c κs =
+    let p = c .before .before .before .before .before .before .before .pre in
+    let l = c .before .before .before .loop in
+    (p .0 .tail-in (l .e) (omega arith), p .0 .delay-in (l .e) (omega arith), p .1)
+
+combined-requires : tie.Need-combined-requires Inv-loop μ-loop
+combined-requires c κs = search needs
+
+mul-e : tie.Need-mul-e Inv-loop μ-loop
+mul-e c = search needs
+
+element-copy-out-e : tie.Need-element-copy-out-e Inv-loop μ-loop
+element-copy-out-e c = omega (arith, c .before .before .before .before .before .before .before .before .before .pre .0 .few)
+
+loop-less : tie.Need-loop-less Inv-loop μ-loop
+loop-less c =
+    let p = c .before .before .before .before .before .before .before .before .before .before .pre in
+    let l = c .before .before .before .before .before .before .loop in
+    omega (arith, p .0 .leads-on (l .e) (omega arith))
+
+loop-again : tie.Need-loop-again Inv-loop μ-loop
+loop-again c =
+    let s = c .before .before .before .before .before .before .before .before .before .before in
+    let l = c .before .before .before .before .before .before .loop in
+    let a = s .args in
+    let inside : l .e < a .edges = omega arith in (
+      s .pre .0 .leads-in (l .e) inside,
+      λ g v t f.
+          subst (Walking g v (a .operation) (a .starts .now) (a .values .now) (a .iteration .0) _ _)
+          (ap (combined (a .operation) (l .begun) (l .total)) (sym (handed-operand g _ _ _ _ _ _ _ (l .e) t inside) ∙ sym (c .before .before .operand-of .ensures)) ∙ sym (c .before .combined .ensures))
+          (walking-next g v _ _ _ _ _ _ f (l .e) (l .total) (l .begun) (omega (arith, t .all-edges)) (l .inv .1 g v t f)),
+    )
+
+closing-of-requires : tie.Need-closing-of-requires Inv-loop μ-loop
+closing-of-requires c κs = search needs
+
+returns : tie.Need-returns Inv-loop μ-loop
+returns c g v t f =
+    let l = c .before .before .loop in
+    c .closing-of .ensures ∙ walking-end g v _ _ _ _ _ _ f (l .e) (l .total) (l .begun) (omega (arith, t .all-edges, l .inv .0)) (l .inv .1 g v t f)
+
+pub value-of-spec : {M : Type 1} → statement M
+value-of-spec = tie.close (tie.spec Inv-loop μ-loop opening-of-requires loop-holds cast-i element-copy-out-operand-of element-copy-out-operand-of-2 operand-of-requires combined-requires mul-e element-copy-out-e loop-less loop-again closing-of-requires returns)

@@ -1,0 +1,4 @@
+pub mod Links
+pub mod Combined
+pub mod Tables
+pub mod Given

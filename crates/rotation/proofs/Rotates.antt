@@ -1,0 +1,134 @@
+-- The ways that a rotation goes: what the judge refuses, Size, Long, and the form rotated.
+-- Assumes nothing.
+use mathlib.Core.Path.{_≡_, refl, sym, ap, _∙_}
+use mathlib.Core.Bool.{Bool, true, false, _&&_}
+use mathlib.Core.Logic.{_⊎_, _≢_}
+use Prim.Native.Nat.{ℕ, _≤_, _<_}
+use native.Mathlib.Omega.{arith}
+use lib.Dec.{ltb}
+use borrow.Author.Tests.{ltb-true, lt-ltb, le-ltb}
+use Rattle.lists.specs.Pick.{pick, pick-true, pick-false, pick-ind, both-ways}
+use Rattle.lists.specs.Both.{and-both}
+use Rattle.answer.specs.Refused.{numberOf, fine}
+use Rattle.answer.specs.Outcome.{noCycle}
+use Rattle.answer.specs.declared.Refusal.{Refusal}
+use Rattle.answer.specs.declared.Refusal.the-variants.{None, Size, Long, Room}
+use Rattle.form.specs.declared.Form.{Form}
+use Rattle.form.specs.Ranges.{WellFormed}
+use Rattle.writer.specs.Writing.{refusalOf}
+use Rattle.record.specs.Held.{Held}
+use Rattle.legal.specs.Loop.{Loop, Pair, loopOf, pairOf}
+use Rattle.legal.specs.Legal.{Legal}
+use Rattle.legal.specs.Judging.{judgeOf}
+use Rattle.legal.specs.Judged.{Judged, bare, knot, rules, judged, judge-accepts}
+use Rattle.legal.specs.Ruled.{dependence, units, kept}
+use Rattle.judge.specs.Judgement.{Judgement}
+use Rattle.judge.specs.declared.Judged as verdict
+use Rattle.rotation.specs.Pairs.{withPair}
+use Rattle.rotation.specs.Rotation.{rotatedLength, rotated, tooLong, turnedForm, rotatedOr}
+use Rattle.rotation.specs.RotatedLaws.{rotated-written}
+use Rattle.rotation.specs.Scheduling.{Planned, unturned, turns, rotateAsked, rotatedBy}
+use Rattle.rotation.proofs.Entries.{handed-none}
+
+-- a judge that refuses nothing accepts
+judged-none : (g : Loop) (p : Pair) (r : Refusal) → Judged g p r → fine r ≡ true → r ≡ None
+unfolding fine
+judged-none g p r (bare z) e = both-ways e refl
+judged-none g p r (knot n es k) e = both-ways e refl
+judged-none g p r (rules q n free (dependence d t)) e = both-ways e refl
+judged-none g p r (rules q n free (units h k d t)) e = both-ways e refl
+judged-none g p r (rules q n free (kept h u)) e = refl
+
+-- what steps can be rotated
+turns-told : (z l : ℕ) → turns z l ≡ true → (1 ≤ z) × (z < l)
+unfolding turns
+turns-told z l t = let b = and-both _ _ t in (ltb-true _ _ (b .0), ltb-true _ _ (b .1))
+
+pub turns-zero : (z l : ℕ) → z ≡ 0 → false ≡ turns z l
+unfolding turns
+turns-zero z l e = ap (λ (b : Bool). b && ltb z l) (sym (le-ltb 0 z (omega (arith, e))))
+
+pub turns-some : (z l : ℕ) → z ≢ 0 → ltb z l ≡ turns z l
+unfolding turns
+turns-some z l n = ap (λ (b : Bool). b && ltb z l) (sym (lt-ltb 0 z (omega (arith, n))))
+
+-- the length is the same, whether or not a retiming is fitted
+or-length : (f : Form) (z : ℕ) → rotatedOr f z .length ≡ rotatedLength f z
+unfolding rotatedOr turnedForm rotated withPair
+or-length f z = pick-ind (λ (x : Form). x .length ≡ rotatedLength f z) (tooLong f z) (turnedForm f z) (rotated f z) (λ _. refl) (λ _. refl)
+
+module _ (f : Form) (w : WellFormed f) (z : ℕ) where
+  -- what the judge accepts is legal
+  pub rotate-legal : fine (judgeOf f) ≡ true → turns z (f .length) ≡ true → Legal (loopOf f) (pairOf f) × (1 ≤ z) × (z < f .length)
+  rotate-legal e t =
+      let b = turns-told z (f .length) t in
+      (judge-accepts f w (judged-none (loopOf f) (pairOf f) (judgeOf f) (judged f w) e) .1, b .0, b .1)
+
+  module _ (y : verdict.Judged) (j : Judgement f y) where
+    judge-fine : fine (y .refusal) ≡ true → fine (judgeOf f) ≡ true
+    judge-fine e = ap fine (sym (j .refusal)) ∙ e
+
+    -- what the judge accepts comes without a cycle
+    no-cycle : fine (y .refusal) ≡ true → y .cycle ≡ noCycle
+    unfolding fine
+    no-cycle e = j .handed .none (λ q. both-ways e (ap fine q)) (λ q. both-ways e (ap fine q))
+
+    pub rotate-unjudged : fine (y .refusal) ≡ false → Planned (rotateAsked z) (rotatedBy z) unturned f (record { refusal = y .refusal; rotations = 0; cycle = y .cycle; form = f })
+    unfolding rotateAsked
+    rotate-unjudged b = record {
+      refusal = j .refusal ∙ sym (pick-false (fine (judgeOf f)) _ _ (ap fine (sym (j .refusal)) ∙ b));
+      form = λ t. both-ways t b;
+      rotations = λ t. refl;
+      handed = j .handed;
+    }
+
+    module _ (e : fine (y .refusal) ≡ true) where
+      pub rotate-size : turns z (f .length) ≡ false → (n : ℕ) → n ≡ z → Planned (rotateAsked z) (rotatedBy z) unturned f (record { refusal = Size n; rotations = 0; cycle = y .cycle; form = f })
+      unfolding rotateAsked fine
+      rotate-size b n is = record {
+        refusal = ap (λ (k : ℕ). Size k) is ∙ sym (pick-true (fine (judgeOf f)) _ _ (judge-fine e) ∙ pick-false (turns z (f .length)) _ _ b);
+        form = λ t. both-ways t refl;
+        rotations = λ t. refl;
+        handed = handed-none _ _ (Size n) (y .cycle) (omega arith) (omega arith) (no-cycle e);
+      }
+
+      module _ (t : turns z (f .length) ≡ true) (x : Form) (is : x ≡ rotatedOr f z) where
+        long-is : x .length ≡ rotatedLength f z
+        long-is = ap (λ (g : Form). g .length) is ∙ or-length f z
+
+        pub rotate-too-long : 512 < x .length → Planned (rotateAsked z) (rotatedBy z) unturned f (record { refusal = Long; rotations = 0; cycle = y .cycle; form = f })
+        unfolding rotateAsked tooLong fine
+        rotate-too-long l = record {
+          refusal = sym (pick-true (fine (judgeOf f)) _ _ (judge-fine e) ∙ pick-true (turns z (f .length)) _ _ t ∙ pick-true (tooLong f z) _ _ (lt-ltb 512 (rotatedLength f z) (omega (arith, long-is))));
+          form = λ q. both-ways q refl;
+          rotations = λ q. refl;
+          handed = handed-none _ _ Long (y .cycle) (omega arith) (omega arith) (no-cycle e);
+        }
+
+        pub rotate-planned : x .length ≤ 512 → Planned (rotateAsked z) (rotatedBy z) unturned f (record { refusal = None; rotations = 0; cycle = y .cycle; form = x })
+        unfolding rotateAsked rotatedOr tooLong
+        rotate-planned l =
+            let short : tooLong f z ≡ false = le-ltb 512 (rotatedLength f z) (omega (arith, long-is)) in
+            record {
+              refusal = sym (pick-true (fine (judgeOf f)) _ _ (judge-fine e) ∙ pick-true (turns z (f .length)) _ _ t ∙ pick-false (tooLong f z) _ _ short);
+              form = λ _. is ∙ pick-false (tooLong f z) _ _ short;
+              rotations = λ _. refl;
+              handed = handed-none _ _ None (y .cycle) (omega arith) (omega arith) (no-cycle e);
+            }
+
+-- where nothing is refused, the judge accepts, the steps can be rotated, and the rotation is not too long
+asked-told : (z : ℕ) (f : Form) → fine (rotateAsked z f) ≡ true → (fine (judgeOf f) ≡ true) × (turns z (f .length) ≡ true) × (tooLong f z ≡ false)
+unfolding rotateAsked fine
+asked-told z f e = go (fine (judgeOf f)) (turns z (f .length)) (tooLong f z) refl refl refl
+  where
+    go : (a b c : Bool) → fine (judgeOf f) ≡ a → turns z (f .length) ≡ b → tooLong f z ≡ c → (fine (judgeOf f) ≡ true) × (turns z (f .length) ≡ true) × (tooLong f z ≡ false)
+    go false b c p q r = both-ways e (ap fine (pick-false (fine (judgeOf f)) _ _ p) ∙ p)
+    go true false c p q r = both-ways e (ap fine (pick-true (fine (judgeOf f)) _ _ p ∙ pick-false (turns z (f .length)) _ _ q))
+    go true true true p q r = both-ways e (ap fine (pick-true (fine (judgeOf f)) _ _ p ∙ pick-true (turns z (f .length)) _ _ q ∙ pick-true (tooLong f z) _ _ r))
+    go true true false p q r = (p, q, r)
+
+pub rotate-writes : (z : ℕ) (f : Form) → WellFormed f → Held f → fine (rotateAsked z f) ≡ true → (room : ℕ) → (refusalOf (rotatedBy z f) room ≡ None) ⊎ (refusalOf (rotatedBy z f) room ≡ Room 0)
+rotate-writes z f w h e room =
+    let a = asked-told z f e in
+    let l = rotate-legal f w z (a .0) (a .1) in
+    rotated-written f w (l .0) z (l .1) (l .2) (h .sized .start) (a .2) h room
