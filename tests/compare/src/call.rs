@@ -137,7 +137,8 @@ fn same<T: PartialEq + std::fmt::Debug>(name: &str, ours: &[T], theirs: &[T]) ->
 pub fn compare(record: &[u8], call: &Call) -> Result<Buffers, String> {
     let mut ours = Buffers::new(call);
     let mut theirs = ours.clone();
-    let returned = of_library(record, call, &mut ours);
+    let lent = record.to_vec();
+    let returned = of_library(&lent, call, &mut ours);
     let wanted = of_reference(record, call, &mut theirs);
     if returned != wanted {
         return Err(format!("it returned {returned} and should return {wanted}"));
@@ -146,5 +147,8 @@ pub fn compare(record: &[u8], call: &Call) -> Result<Buffers, String> {
     same("out", &ours.out, &theirs.out)?;
     same("values", &ours.values, &theirs.values)?;
     same("finish", &ours.finish, &theirs.finish)?;
+    if lent != record || ours.table != theirs.table {
+        return Err("the record or the start table was changed".into());
+    }
     Ok(ours)
 }
