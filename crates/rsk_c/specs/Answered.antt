@@ -15,6 +15,7 @@ use Rattle.fit.specs.Fitting.{RecordFitted}
 use Rattle.rotation.specs.declared.Scheduled.{Scheduled}
 use Rattle.rotation.specs.Rotation.{firstForm}
 use Rattle.rotation.specs.Scheduling.{RecordScheduled, firstAsked, unturned, rotateAsked, rotatedBy}
+use Rattle.search.specs.Searching.{searchAsked, searchForm, searchTurns}
 use Rattle.floor.specs.declared.Floored.{Floored}
 use Rattle.floor.specs.Floor.{partNumber, partClass, RecordFloored}
 
@@ -42,6 +43,11 @@ FirstAnswered s out after =
 abbrev pub RotateAnswered : ℕ → List ℕ → List ℕ → List ℕ → ℕ → List ℕ → Type 0
 RotateAnswered z s out after =
     Answered Scheduled (RecordScheduled (rotateAsked z) (rotatedBy z) unturned s out after) (λ x. x .refusal) (λ x. details (x .size) 0 0) (λ x. x .cycle)
+
+-- a record searched by count and size: its size and the rotations completed
+abbrev pub SearchAnswered : ℕ → ℕ → List ℕ → List ℕ → List ℕ → ℕ → List ℕ → Type 0
+SearchAnswered c z s out after =
+    Answered Scheduled (RecordScheduled (searchAsked z) (searchForm c z) (searchTurns c z) s out after) (λ x. x .refusal) (λ x. details (x .size) (x .rotations) 0) (λ x. x .cycle)
 
 -- the floor of a record: the floor, its part's number, and the class for part b
 abbrev pub FloorAnswered : List ℕ → ℕ → List ℕ → Type 0

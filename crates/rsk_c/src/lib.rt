@@ -3,7 +3,7 @@ ghost use mathlib.Core.Path.{_≡_};
 ghost use lib.ListN.{length};
 ghost use Rattle.answer.specs.Refused.{numberOf};
 ghost use Rattle.rsk_c.specs.Rewrite.{rewritten, rewrittenOut, rewrittenAnswer};
-ghost use Rattle.rsk_c.specs.Answered.{JudgeAnswered, FitAnswered, FirstAnswered, RotateAnswered, FloorAnswered};
+ghost use Rattle.rsk_c.specs.Answered.{JudgeAnswered, FitAnswered, FirstAnswered, RotateAnswered, SearchAnswered, FloorAnswered};
 ghost use Rattle.rsk_c.specs.List.{listedAnswer};
 ghost use Rattle.listing.specs.Lines.{listed, listedBuffer};
 use answer::Cycle;
@@ -86,6 +86,28 @@ pub extern "C" fn rsk_rotate(record: &[u8], z: u16, out: &mut [u8], answer: &mut
         answer,
         refusal,
         answer::numbers_of(rotated.size, 0, 0),
+        cycle,
+    )
+}
+
+// The record with the shortest pair of a search; its size and the rotations completed.
+#[no_mangle]
+pub extern "C" fn rsk_search(
+    record: &[u8],
+    count: u16,
+    size: u16,
+    out: &mut [u8],
+    answer: &mut [u32; 69],
+) -> u32
+    ensures { λ r. ⌜ SearchAnswered count size (now («record» .entry)) (now (out .entry)) (now (out .exit)) r (now (answer .exit)) ⌝ }
+{
+    let found = search::search(record, count, size, out);
+    let refusal = found.refusal;
+    let cycle = found.cycle;
+    answer::fill(
+        answer,
+        refusal,
+        answer::numbers_of(found.size, found.rotations, 0),
         cycle,
     )
 }
