@@ -71,14 +71,20 @@ fn largest(random: &mut Random) -> Vec<Case> {
     vec![(bytes, calls)]
 }
 
-/// Chains of some 64 operations of some 8 steps, near the longest length there is.
+/// Chains of some 64 operations of some 8 steps, near the longest length there is; with a single
+/// unit a rotation soon needs more.
 fn long(random: &mut Random) -> Vec<Case> {
-    let nodes = random.between(50, 64) as usize;
+    let nodes = random.between(58, 64) as usize;
     let edges = nodes - 1 + random.below(40);
     let mut body = make::body(random, nodes, edges, Shape::Chain);
+    let single = random.chance(50);
     for class in &mut body.classes {
-        class.latency = random.between(7, 8);
-        class.units = random.between(1, 2);
+        class.latency = if single { 8 } else { random.between(7, 8) };
+        class.units = if single { 1 } else { random.between(1, 2) };
+        class.pipelined &= !single;
+    }
+    if single {
+        body.nodes.iter_mut().for_each(|node| node.class = 0);
     }
     let bytes = with_any_pair(random, &body);
     let calls = calls::every(random, &bytes);
