@@ -1,16 +1,12 @@
 //! Times each entry point of the proved library and of the reference on the same records.
 
+mod clock;
 mod records;
 
 use library::{Answer, Entry, ENTRIES};
 use records::Timed;
 use reference::entry;
 use std::hint::black_box;
-use std::time::{Duration, Instant};
-
-/// The least time of a batch of calls, and how many batches are timed; the fastest counts.
-const BATCH: Duration = Duration::from_millis(10);
-const BATCHES: usize = 15;
 
 /// A call's numbers: steps, rotations or iterations, and the size of a search.
 #[derive(Clone, Copy)]
@@ -61,38 +57,6 @@ fn of_reference(entry: Entry, record: &[u8], numbers: Numbers, lent: &mut Lent) 
     answer[0]
 }
 
-/// How many calls take as long as a batch.
-fn calls_of_a_batch(call: &mut impl FnMut() -> u32) -> u32 {
-    assert_eq!(black_box(call()), 0, "a call that is timed is answered");
-    let began = Instant::now();
-    let mut calls = 0;
-    while began.elapsed() < BATCH {
-        black_box(call());
-        calls += 1;
-    }
-    calls
-}
-
-/// Nanoseconds for one call, over a batch.
-fn batch(calls: u32, call: &mut impl FnMut() -> u32) -> f64 {
-    let began = Instant::now();
-    for _ in 0..calls {
-        black_box(call());
-    }
-    began.elapsed().as_nanos() as f64 / f64::from(calls)
-}
-
-/// Nanoseconds for one call of each, in turn, the fastest batch of each.
-fn fastest(mut one: impl FnMut() -> u32, mut other: impl FnMut() -> u32) -> (f64, f64) {
-    let (calls, other_calls) = (calls_of_a_batch(&mut one), calls_of_a_batch(&mut other));
-    let mut best = (f64::MAX, f64::MAX);
-    for _ in 0..BATCHES {
-        best.0 = best.0.min(batch(calls, &mut one));
-        best.1 = best.1.min(batch(other_calls, &mut other));
-    }
-    best
-}
-
 impl Lent {
     fn new(entry: Entry, nodes: usize, iterations: usize) -> Lent {
         let places = if matches!(entry, Entry::Run | Entry::Plain) { iterations * nodes } else { 0 };
@@ -113,12 +77,12 @@ fn row(entry: Entry, timed: &Timed, numbers: Numbers, what: &str) {
     }
     let lent = || Lent::new(entry, timed.body.nodes.len(), usize::from(numbers.count));
     let (mut ours, mut theirs) = (lent(), lent());
-    let (proved, plain) = fastest(
-        || of_library(entry, black_box(&timed.bytes), numbers, &mut ours),
-        || of_reference(entry, black_box(&timed.bytes), numbers, &mut theirs),
+    let (proved, plain) = clock::fastest(
+        || assert_eq!(of_library(entry, black_box(&timed.bytes), numbers, &mut ours), 0),
+        || assert_eq!(of_reference(entry, black_box(&timed.bytes), numbers, &mut theirs), 0),
     );
     let call = format!("{}{what}", entry.name());
-    println!("| {call:<21} | {:<19} | {proved:>11.0} | {plain:>11.0} | {:>5.2} |", timed.name, proved / plain);
+    println!("| {call:<23} | {:<19} | {proved:>11.0} | {plain:>11.0} | {:>5.2} |", timed.name, proved / plain);
 }
 
 fn processor() -> String {
@@ -128,12 +92,10 @@ fn processor() -> String {
 }
 
 fn main() {
-    println!(
-        "Processor: {}. Nanoseconds for one call; the ratio is the proved library over plain Rust.\n",
-        processor()
-    );
-    println!("| Call                  | Record              |     Library |  Plain Rust | Ratio |");
-    println!("|-----------------------|---------------------|------------:|------------:|------:|");
+    println!("Processor: {}.", processor());
+    println!("Nanoseconds of processor time for one call; the ratio is the proved library over plain Rust.\n");
+    println!("| Call                    | Record              |     Library |  Plain Rust | Ratio |");
+    println!("|-------------------------|---------------------|------------:|------------:|------:|");
     let records = records::all();
     for timed in &records {
         for entry in ENTRIES {
