@@ -7,7 +7,7 @@ import model
 from model import Form, Refused
 
 REWRITE, JUDGE, FIT, FLOOR, LIST, FIRST, ROTATE, SEARCH, RUN, PLAIN = range(10)
-LINKED = {REWRITE, JUDGE, FIT, FLOOR, LIST, FIRST, ROTATE}  # what crates/cases asks; cases of the others are left out
+LINKED = {REWRITE, JUDGE, FIT, FLOOR, LIST, FIRST, ROTATE, SEARCH, RUN, PLAIN}  # what crates/cases asks; cases of the others are left out
 requests, answers = [], []
 
 
@@ -442,7 +442,8 @@ def runs():
     yield operations(), 3
     yield Form([plain(1)], [(0, 1, 1)], [(0, 0, 15), (0, 0, 1), (0, 0, 1)], 2, [2], [0]), 40  # the fifteenth place
     yield Form([(3, 2, 1)], [(0, 2, 3), (0, 1, 4)], [(0, 1, 1), (0, 1, 1), (1, 0, 14), (0, 0, 3)], 4, [1, 1], [0, 0]), 20
-    yield SMALL.with_pair([1, 1, 2], 2, [63, 62, 62]), 5  # a long prologue, by a retiming that no fit gives
+    apart = Form(SMALL.classes, SMALL.nodes + [(0, 1, 9)], SMALL.edges)
+    yield apart.with_pair([1, 1, 2, 3], 3, [63, 62, 62, 0]), 5  # a long prologue
     for name in ("diffeq-1A-2M", "biquad-2A-4M", "allpole-3A-2M", "lattice-3A-8M", "elliptic-3A-2M"):
         yield model.search(example(name), 3, 6)[0], 10
     yield model.first(wide_bare()), 4

@@ -1,6 +1,9 @@
 #!/usr/bin/env python3
 """Writes examples/*.rsk, one bare record for each loop (examples/*.loop) and board (examples/boards.txt), and
-checks the loops against table I of Chao, LaPaugh and Sha (1997). Run from the repository's root."""
+checks the loops against table I of Chao, LaPaugh and Sha (1997). Run from the repository's root.
+
+A loop's file has a line `add NAME CONSTANT` (or sub, or mul) for each node, and `edge FROM TO DELAYS` for each edge;
+the edges into a node are its operands in that order. What follows a # is a comment."""
 
 import collections
 import re

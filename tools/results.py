@@ -156,7 +156,7 @@ TEXT = """# Results
 
 How short the loops of `examples/` become, beside what Chao, LaPaugh and Sha report (Rotation Scheduling, 1997, tables II and III). Written by `tools/results.py`; the figures come from {name}.
 
-- **Board**: A adders of 1 step, M multipliers of 2 steps, Mp pipelined ones, Mu of 1 step. A class has at most 8 units, so 15M and 10M are two classes each, with the multiplications shared out.
+- **Board**: A adders of 1 step, M multipliers of 2 steps, Mp pipelined ones, Mu of 1 step (the paper's figure 2). A class has at most 8 units, so 15M and 10M are two classes each, with the multiplications shared out.
 - **First** is the first schedule's length. **Best** is the shortest that a search reaches, with its stages (one more than its depth, as the paper counts) in parentheses. **Search** is the least count of rotations that reaches it and, of those, the least size.
 - Searched: every size from 1 to one less than the first length, with counts up to {most}. A larger size is halved to one of these before the first rotation, and each of these searches, taken on by the model, comes back to a pair that it has met after at most {repeats} rotations, without a shorter one on the way. So no count and no size does better.
 - **LB** and **RS** are the paper's lower bound and what its heuristic reached.
