@@ -4,9 +4,11 @@ use mathlib.Core.Path.{_≡_}
 use mathlib.Core.List.{List}
 use Prim.Native.Nat.{ℕ, _+_, _-_, _≤_, _<_}
 use native.Mathlib.Omega.{arith}
+use native.Mathlib.Decide.{decLt}
 use lib.Dec.{eqb}
 use lib.ListN.{getD}
-use borrow.Author.Tests.{eqb-true}
+use borrow.Author.Tests.{eqb-true, eq-eqb}
+use Rattle.lists.specs.Pick.{both-ways}
 use Rattle.lists.specs.First.{firstFrom, first-is}
 
 -- of so many edges from e on the first whose key is k; the number past them where there is none
@@ -31,3 +33,24 @@ module _ (key : ℕ → ℕ) (edges : ℕ) (first next : List ℕ) (c : Chains k
 
   pub begins-in : (k : ℕ) → k < 64 → getD first k 0 ≤ edges
   begins-in k l = omega (arith, c .first-with k l, first-is (λ x. eqb (key x) k) edges 0 .to)
+
+  -- no edge with the key lies before the first, nor between an edge and the next
+  pub none-before : (k d : ℕ) → k < 64 → key d ≡ k → getD first k 0 ≤ d
+  none-before k d l same = elim (decLt d (getD first k 0)) [
+    | yes h ↦ both-ways (eq-eqb (key d) k same) (first-is (λ x. eqb (key x) k) edges 0 .before d (omega arith) (omega (arith, c .first-with k l)))
+    | no h ↦ omega arith
+  ]
+
+  pub none-between : (e d : ℕ) → e < edges → key d ≡ key e → e < d → getD next e 0 ≤ d
+  none-between e d l same m = elim (decLt d (getD next e 0)) [
+    | yes h ↦ both-ways (eq-eqb (key d) (key e) same)
+        (first-is (λ x. eqb (key x) (key e)) (edges - (e + 1)) (e + 1) .before d (omega arith) (omega (arith, c .next-with e l)))
+    | no h ↦ omega arith
+  ]
+
+  -- both have the key
+  pub first-key : (k : ℕ) → k < 64 → getD first k 0 < edges → key (getD first k 0) ≡ k
+  first-key k l m = rw (c .first-with k l) (has-key key k edges 0 (omega (arith, c .first-with k l)))
+
+  pub next-key : (e : ℕ) → e < edges → getD next e 0 < edges → key (getD next e 0) ≡ key e
+  next-key e l m = rw (c .next-with e l) (has-key key (key e) (edges - (e + 1)) (e + 1) (omega (arith, c .next-with e l)))
