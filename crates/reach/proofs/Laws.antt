@@ -73,16 +73,14 @@ module _ (f : ℕ → ℕ) where
 -- ---- a form's tables
 
 module _ (f : Form) where
-  pub tails-in : WellFormed f → (e : ℕ) → e < f .edges → getD (f .from) e 0 < 64
-  tails-in w e l = omega (arith, w .nodes, w .edge e l .from)
-
-  pub fits-form : (first next : List ℕ) → WellFormed f → Chains (λ e. getD (f .from) e 0) (f .edges) first next → Fits (f .edges) first next (f .to)
-  fits-form first next w c = record {
+  pub fits-form : (keys : ℕ → ℕ) (first next heads : List ℕ) → WellFormed f → Chains keys (f .edges) first next
+      → ((e : ℕ) → e < f .edges → getD heads e 0 < 64) → Fits (f .edges) first next heads
+  fits-form keys first next heads w c inside = record {
     few = w .edges;
-    begins = begins-in _ _ _ _ c;
-    leads-on = leads-on _ _ _ _ c;
-    leads-in = leads-in _ _ _ _ c;
-    head-in = λ e l. omega (arith, w .nodes, w .edge e l .to);
+    begins = begins-in keys _ _ _ c;
+    leads-on = leads-on keys _ _ _ c;
+    leads-in = leads-in keys _ _ _ c;
+    head-in = inside;
   }
 
   pub weight-form : (v w : ℕ) (first next ts : List ℕ) → WellFormed f → Chains (λ e. getD (f .from) e 0) (f .edges) first next

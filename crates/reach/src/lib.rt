@@ -163,7 +163,7 @@ fn weight_of<'a>(
     marks[v as usize] = 1;
     let mut queue = [0u8; 64];
     queue[0] = v;
-    reach(
+    let reached = reach(
         &mut marks,
         &mut queue,
         0,
@@ -174,8 +174,8 @@ fn weight_of<'a>(
         heads,
         tights,
         nodes,
-    )
-        - 1
+    );
+    reached - 1
 }
 
 // The weight of each node under the form's retimings; 0 past the nodes. At most N+E steps from each of the N nodes.

@@ -33,7 +33,7 @@ element-copy-out-node c =
 spread-requires : tie.Need-spread-requires Inv-loop μ-loop
 spread-requires c κs =
     let l = c .before .before .before .before .loop in
-    (c .before .before .before .before .before .pre .0, l .inv .1, l .inv .1 .node-in (l .i) (omega arith))
+    (c .before .before .before .before .before .pre .0, l .inv .1, l .inv .1 .node-in _ (omega arith))
 
 add-i : tie.Need-add-i Inv-loop μ-loop
 add-i c = search needs

@@ -8,7 +8,7 @@ use borrow.Author.Needs.{needs}
 use Rattle.form.specs.Places.{retimingOf}
 use Rattle.legal.specs.Loop.{loopOf}
 use Rattle.reach.specs.Weight.{weight}
-use Rattle.reach.proofs.Laws.{filled, filled-none, filled-more, tails-in, fits-form, weight-form, weights-form}
+use Rattle.reach.proofs.Laws.{filled, filled-none, filled-more, fits-form, weight-form, weights-form}
 use Rattle.reach.proofs.weights.Statement.{statement}
 use Rattle.reach.proofs.weights.Tie as tie
 
@@ -25,7 +25,7 @@ tights-of-requires c κs = search needs
 links-of-requires : tie.Need-links-of-requires Inv-loop μ-loop
 links-of-requires c κs =
     let w = c .before .before .before .pre in
-    (w .edges, tails-in _ w)
+    (w .edges, λ e l. omega (arith, w .nodes, w .edge e l))
 
 loop-holds : tie.Need-loop-holds Inv-loop μ-loop
 loop-holds c = (search needs, search needs, search needs, filled-none _)
@@ -33,7 +33,8 @@ loop-holds c = (search needs, search needs, search needs, filled-none _)
 weight-of-requires : tie.Need-weight-of-requires Inv-loop μ-loop
 weight-of-requires c κs =
     let s = c .before .before .before .before .before .before .before .before in
-    (search needs, search needs, fits-form _ _ _ (s .before .before .before .before .pre) (s .links-of .ensures))
+    let w = s .before .before .before .before .pre in
+    (search needs, search needs, fits-form _ _ _ _ _ w (s .links-of .ensures) (λ e l. omega (arith, w .nodes, w .edge e l)))
 
 cast-weights : tie.Need-cast-weights Inv-loop μ-loop
 cast-weights c = search needs
