@@ -1,5 +1,5 @@
 // Asks the linked functions what standard input holds, request after request, and prints each answer.
-// A request is 10 bytes: what to ask, an unused byte, two numbers, the room lent and the record's length,
+// A request is 14 bytes: what to ask, an unused byte, four numbers, the room lent and the record's length,
 // 16 bits each, the lowest byte first; then the record. The buffer lent is filled with 238, so that a byte
 // written where none should be is seen.
 ghost use mathlib.Core.Path.{_≡_};
@@ -41,7 +41,8 @@ fn print_bytes(bytes: &[u8]) {
     }
 }
 
-fn ask(what: u8, record: &[u8], out: &mut [u8], answer: &mut [u32; 69]) {
+// A rotation's size is the first number.
+fn ask(what: u8, first: u16, record: &[u8], out: &mut [u8], answer: &mut [u32; 69]) {
     match what {
         0 => {
             rsk_c::rsk_rewrite(record, out, answer);
@@ -58,14 +59,20 @@ fn ask(what: u8, record: &[u8], out: &mut [u8], answer: &mut [u32; 69]) {
         4 => {
             rsk_c::rsk_list(record, out, answer);
         }
+        5 => {
+            rsk_c::rsk_first(record, out, answer);
+        }
+        6 => {
+            rsk_c::rsk_rotate(record, first, out, answer);
+        }
         _ => {}
     }
 }
 
 // The answer and the buffer after it.
-fn tell(what: u8, record: &[u8], out: &mut [u8]) {
+fn tell(what: u8, first: u16, record: &[u8], out: &mut [u8]) {
     let mut answer = [0u32; 69];
-    ask(what, record, out, &mut answer);
+    ask(what, first, record, out, &mut answer);
     print_answer(&answer);
     print_bytes(out);
     io::write_all(STDOUT_FILENO, b"\n");
@@ -83,16 +90,24 @@ fn marked() -> [u8; 8192]
     [238; 8192]
 }
 
-// One request; whether there was one.
-fn one() -> bool {
-    let mut head = [0u8; 10];
-    let got = io::read_full(0, &mut head);
-    let room = two(head[6], head[7]) as usize;
-    let length = two(head[8], head[9]) as usize;
-    if got < 10 {
+// A request that lends bytes; whether there is that room.
+fn lend_bytes(head: &[u8; 14], record: &[u8]) -> bool {
+    let first = two(head[2], head[3]);
+    let room = two(head[10], head[11]) as usize;
+    if 8192 < room {
         return false;
     }
-    if 8192 < room {
+    let mut out = marked();
+    tell(head[0], first, record, &mut out[..room]);
+    true
+}
+
+// One request; whether there was one.
+fn one() -> bool {
+    let mut head = [0u8; 14];
+    let got = io::read_full(0, &mut head);
+    let length = two(head[12], head[13]) as usize;
+    if got < 14 {
         return false;
     }
     if 2048 < length {
@@ -100,9 +115,7 @@ fn one() -> bool {
     }
     let mut bytes = empty();
     io::read_full(0, &mut bytes[..length]);
-    let mut out = marked();
-    tell(head[0], &bytes[..length], &mut out[..room]);
-    true
+    lend_bytes(&head, &bytes[..length])
 }
 
 // A proved loop has to end, and nothing says that the input does.

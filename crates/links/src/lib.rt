@@ -11,7 +11,7 @@ pub struct Links {
     pub next: [u16; 256],
 }
 
-// As long as no edge is linked, their number stands at each place.
+// Before any edge is linked the number of edges stands at each place.
 fn first_blank(edges: u16) -> [u16; 64]
     ensures { λ r. ⌜ (length r ≡ 64) × ((k : ℕ) → k < 64 → getD r k 0 ≡ edges) ⌝ }
 {

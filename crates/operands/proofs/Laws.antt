@@ -1,6 +1,6 @@
 -- A product of words, places among the values, and a walk over links that has come to an edge.
 -- Assumes nothing.
-use mathlib.Core.Path.{_≡_, sym, _∙_, ap, subst⁻¹}
+use mathlib.Core.Path.{_≡_, sym, _∙_, ap, subst, subst⁻¹}
 use mathlib.Core.Bool.{Bool, true, false}
 use mathlib.Core.List.{List, _∷_, map}
 use Prim.Native.Nat.{ℕ, _+_, _-_, _*_, _^_, _≤_, _<_}
@@ -26,8 +26,11 @@ below k {a} {b} ha hb =
 -- ---- one operand
 
 -- a place among the values is a small number
+pub place-small : (i nodes u : ℕ) → i < 4294967296 → nodes < 256 → u < 256 → i * nodes + u < 2199023255552
+place-small i nodes u a b c = omega (arith, mul-le-mul-right {m = i} {n = 4294967295} nodes (omega arith))
+
 pub back-small : (i d nodes u : ℕ) → i < 4294967296 → nodes < 256 → u < 256 → (i - d) * nodes + u < 2199023255552
-back-small i d nodes u a b c = omega (arith, mul-le-mul-right {m = i - d} {n = 4294967295} nodes (omega arith))
+back-small i d nodes u a b c = place-small (i - d) nodes u (omega arith) b c
 
 -- and lies among them
 pub back-in : (i d nodes u total : ℕ) → u < nodes → i * nodes + nodes ≤ total → (i - d) * nodes + u < total
@@ -56,7 +59,7 @@ module _ (g : Loop) (v : ℕ) (o : Operation) (starts values : List ℕ) (i : �
     }
 
     -- one operand more
-    pub walking-next : (e total : ℕ) (begun : Bool) → e < g .graph .edges → Walking e begun total
+    walking-next : (e total : ℕ) (begun : Bool) → e < g .graph .edges → Walking e begun total
         → Walking (getD next e 0) true (combined o begun total (operand g starts values i e))
     unfolding finished
     walking-next e total begun l w =
@@ -79,7 +82,17 @@ module _ (g : Loop) (v : ℕ) (o : Operation) (starts values : List ℕ) (i : �
         rw none at (w .whole)
 
 -- what an edge hands over, by tables that tell it
-pub handed-operand : (g : Loop) (nodes edges : ℕ) (tails delays starts values : List ℕ) (i e : ℕ) → Tells g nodes edges tails delays → e < edges
+handed-operand : (g : Loop) (nodes edges : ℕ) (tails delays starts values : List ℕ) (i e : ℕ) → Tells g nodes edges tails delays → e < edges
     → handed nodes starts values i (getD tails e 0) (getD delays e 0) ≡ operand g starts values i e
 unfolding handed operand
 handed-operand g nodes edges tails delays starts values i e t l = rw (t .all-nodes, t .is-tail e l, t .is-delay e l)
+
+-- the walk goes on with the total that the tables give
+pub walking-on : (g : Loop) (v : ℕ) (o : Operation) (starts values : List ℕ) (i : ℕ) (first : ℕ) (next : List ℕ) → Follows g v o first next
+    → (nodes edges : ℕ) (tails delays : List ℕ) → Tells g nodes edges tails delays → (e total : ℕ) (begun : Bool) → e < edges → Walking g v o starts values i e begun total
+    → (x : ℕ) → x ≡ handed nodes starts values i (getD tails e 0) (getD delays e 0) → (after : ℕ) → after ≡ combined o begun total x
+    → Walking g v o starts values i (getD next e 0) true after
+walking-on g v o starts values i first next f nodes edges tails delays t e total begun l w x is after so =
+    subst (Walking g v o starts values i (getD next e 0) true)
+    (sym (so ∙ ap (combined o begun total) (is ∙ handed-operand g nodes edges tails delays starts values i e t l)))
+    (walking-next g v o starts values i first next f e total begun (omega (arith, t .all-edges)) w)
