@@ -111,7 +111,7 @@ fn iterate_all(form: Form, order: [u8; 64], iterations: u16, starts: &[u32], val
     requires { ⌜ (15 * form .nodes ≤ length (now starts)) × (iterations * form .nodes ≤ length (now values)) ⌝ }
     ensures { λ _. ⌜ now (values .exit) ≡ looped (loopOf form) (now (starts .entry)) (take (form .nodes) order) iterations (now (values .entry)) ⌝ }
 {
-    let links = operands::incoming_of(&form.to, form.edges);
+    let links = links::links_of(&form.to, form.edges);
     for i in 0..iterations {
         let iteration = Iteration(i as u32);
         iterate(

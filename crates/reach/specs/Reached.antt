@@ -1,10 +1,10 @@
 -- What the marks tell after so many sweeps: which walks of tight edges there are.
 -- Assumes nothing.
-use mathlib.Core.Path.{_≡_, refl, sym, _∙_, ap, subst}
-use mathlib.Core.Bool.{Bool, true, false, _&&_, not, false≢true}
+use mathlib.Core.Path.{_≡_, refl, sym, _∙_, subst}
+use mathlib.Core.Bool.{Bool, true, false, _&&_, not}
 use mathlib.Core.Logic.{_⊎_, inl, inr, ⊎-elim}
 use mathlib.Core.List.{List, [], _∷_, _++_}
-use Prim.Native.Nat.{ℕ, zero, suc, _+_, _-_, _≤_, _<_}
+use Prim.Native.Nat.{ℕ, zero, suc, _+_, _≤_, _<_}
 use native.Mathlib.Omega.{arith}
 use native.Mathlib.Nat.{zero-add, not-suc-le-zero, le-of-suc-le-suc, eq-or-lt-of-le}
 use lib.Dec.{eqb}
@@ -13,10 +13,11 @@ use lib.Seq.{getD-set-same}
 use borrow.Author.Tests.{eqb-true, eq-eqb, ne-eqb}
 use Rattle.lists.specs.Pick.{pick, pick-ind, pick-true}
 use Rattle.lists.specs.Span.{span}
-use Rattle.lists.specs.Fold.{sumOf, count, count-snoc, fold, fold-snoc}
-use Rattle.lists.specs.Count.{count-same}
+use Rattle.lists.specs.Fold.{sumOf, count, fold, fold-snoc}
+use Rattle.lists.specs.Count.{count-last, count-same}
+use Rattle.lists.specs.Tests.{both}
 use Rattle.lists.specs.Place.{set-view, zeros-at}
-use Rattle.system.specs.Graph.{Graph, Joined, Walk}
+use Rattle.system.specs.Graph.{Joined, Walk}
 use Rattle.system.specs.System.{System, gains, costs}
 use Rattle.system.specs.Walks.{walk-join, shorten}
 use Rattle.legal.specs.Loop.{Loop}
@@ -36,12 +37,6 @@ all-snoc P [] e all p (suc i) l = absurd (not-suc-le-zero (le-of-suc-le-suc l))
 all-snoc P (x ∷ es) e all p zero l = all 0 (omega arith)
 all-snoc P (x ∷ es) e all p (suc i) l = all-snoc P es e (λ j k. all (suc j) (omega arith)) p i (le-of-suc-le-suc l)
 
--- the two parts of a test that passes
-both : (a b : Bool) → (a && b) ≡ true → (a ≡ true) × (b ≡ true)
-both true true e = (refl, refl)
-both true false e = (refl, e)
-both false b e = absurd (false≢true e)
-
 -- a sum is 0 exactly when each of its terms is
 sum-zero : (f : ℕ → ℕ) (es : List ℕ) → ((i : ℕ) → i < length es → f (getD es i 0) ≡ 0) → sumOf f es ≡ 0
 unfolding sumOf
@@ -53,9 +48,6 @@ unfolding sumOf
 zero-sum f [] h i l = absurd (not-suc-le-zero l)
 zero-sum f (e ∷ es) h zero l = omega arith
 zero-sum f (e ∷ es) h (suc i) l = zero-sum f es (omega arith) i (le-of-suc-le-suc l)
-
-count-last : (f : ℕ → Bool) (n : ℕ) → count f (span 0 (suc n)) ≡ count f (span 0 n) + pick (f n) 1 0
-count-last f n = count-snoc f 0 n ∙ rw zero-add
 
 -- a number that counts, taken off: the count of the others
 module _ (f : ℕ → Bool) (v : ℕ) (h : f v ≡ true) where
@@ -128,25 +120,19 @@ module _ (g : Loop) (r : ℕ → ℕ) where
     reach-keeps zero m p = p
     reach-keeps (suc k) m p = reach-keeps k (sweep g r m) (sweep-keeps m p)
 
-  -- where a sweep changes nothing, no further one does
-  pub reach-still : (k : ℕ) (m : List ℕ) → sweep g r m ≡ m → reach g r k m ≡ m
-  unfolding reach
-  reach-still zero m e = refl
-  reach-still (suc k) m e = ap (reach g r k) e ∙ reach-still k m e
-
   -- ---- marked, so there is a walk
 
   -- every marked node is reached from v
-  abbrev AllReached : ℕ → List ℕ → Type 0
+  abbrev pub AllReached : ℕ → List ℕ → Type 0
   AllReached v m = (u : ℕ) → Marked m u → (es : List ℕ) × TightWalk v es u
 
-  only-reached : (v : ℕ) → AllReached v (only v)
+  pub only-reached : (v : ℕ) → AllReached v (only v)
   only-reached v u h =
       ⊎-elim (λ w. ([], record { walk = sym (w .0); all-tight = λ i l. absurd (not-suc-le-zero l) })) (λ w. absurd (omega (arith, w, h, zeros-at 64 u)))
       (set-view (replicate 64 0) v 1 u)
 
   -- one tight edge more at the end of a walk
-  walk-on : (v e : ℕ) (es : List ℕ) → e < g .graph .edges → tight g r e ≡ true → TightWalk v es (g .graph .tail e) → TightWalk v (es ++ (e ∷ [])) (g .graph .head e)
+  pub walk-on : (v e : ℕ) (es : List ℕ) → e < g .graph .edges → tight g r e ≡ true → TightWalk v es (g .graph .tail e) → TightWalk v (es ++ (e ∷ [])) (g .graph .head e)
   walk-on v e es l t w = record {
     walk = walk-join (g .graph) v es (g .graph .tail e) (e ∷ []) (g .graph .head e) (w .walk) (l, refl, refl);
     all-tight = all-snoc (λ a. tight g r a ≡ true) es e (w .all-tight) t;

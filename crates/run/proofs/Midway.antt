@@ -9,12 +9,11 @@ use native.Mathlib.Omega.{arith}
 use native.Mathlib.Numerals.{add-one}
 use native.Mathlib.Nat.{add-mul, one-mul}
 use borrow.Author.Tests.{leb-true, ltb-true, eq-eqb}
-use lib.Dec.{eqb, leb, ltb}
+use lib.Dec.{leb, ltb}
 use lib.ListN.{length, getD, take, drop, drop-of-length-le}
 use lib.Seq.{drop-cons, getD-take}
 use Rattle.lists.specs.Pick.{pick, pick-ind, pick-true, pick-false, both-ways}
 use Rattle.lists.specs.Fold.{fold}
-use Rattle.lists.specs.First.{first-is}
 use Rattle.lists.specs.Tests.{both}
 use Rattle.lists.specs.Quotient.{divided, rows-below}
 use Rattle.answer.specs.Refused.{fine}
@@ -23,11 +22,11 @@ use Rattle.answer.specs.declared.Refusal.the-variants.{None}
 use Rattle.form.specs.declared.Form.{Form}
 use Rattle.form.specs.Places.{classOf, nodeOf, startOf, retimingOf}
 use Rattle.form.specs.Ranges.{WellFormed}
+use Rattle.links.specs.Chains.{Chains, leads-on, leads-in, begins-in}
 use Rattle.legal.specs.Loop.{Loop, Pair, graphOf, loopOf, pairOf}
 use Rattle.legal.specs.Shape.{sound-form, placed-form}
 use Rattle.machine.specs.Run.{Machine, depth, issues, issue, visit, iteration}
 use Rattle.machine.specs.Moments.{repOf, issueStep}
-use Rattle.operands.specs.Links.{Links}
 use Rattle.operands.specs.Tables.{Fits, Tells, Follows}
 use Rattle.run.specs.Order.{Rising, order-rising, order-length}
 use Rattle.run.specs.Repeat.{order, stepIn, visitIn, repeated, visits-stay}
@@ -51,14 +50,14 @@ issue-none g p starts k t v m =
 
 -- ---- a form's tables
 
-module _ (f : Form) (w : WellFormed f) (first next : List ℕ) (links : Links (λ e. getD (f .to) e 0) (f .edges) first next) where
+module _ (f : Form) (w : WellFormed f) (first next : List ℕ) (links : Chains (λ e. getD (f .to) e 0) (f .edges) first next) where
   pub fits-form : Fits (f .nodes) (f .edges) (f .from) (f .delays) next
   fits-form = record {
     few = w .edges;
     tail-in = λ e l. w .edge e l .from;
     delay-in = λ e l. w .edge e l .delays;
-    leads-on = λ e l. omega (arith, links .next-into e l, first-is (λ x. eqb (getD (f .to) x 0) (getD (f .to) e 0)) (f .edges - (e + 1)) (e + 1) .from);
-    leads-in = λ e l. omega (arith, links .next-into e l, first-is (λ x. eqb (getD (f .to) x 0) (getD (f .to) e 0)) (f .edges - (e + 1)) (e + 1) .to);
+    leads-on = leads-on _ _ _ _ links;
+    leads-in = leads-in _ _ _ _ links;
   }
 
   pub tells-form : Tells (loopOf f) (f .nodes) (f .edges) (f .from) (f .delays)
@@ -67,10 +66,10 @@ module _ (f : Form) (w : WellFormed f) (first next : List ℕ) (links : Links (�
 
   pub follows-form : (v : ℕ) → v < f .nodes → Follows (loopOf f) v (nodeOf f v .operation) (getD first v 0) next
   unfolding loopOf graphOf
-  follows-form v l = record { is-operation = refl; is-first = links .first-into v (omega (arith, w .nodes)); is-next = λ e m. links .next-into e m }
+  follows-form v l = record { is-operation = refl; is-first = links .first-with v (omega (arith, w .nodes)); is-next = λ e m. links .next-with e m }
 
   pub first-few : (v : ℕ) → v < f .nodes → getD first v 0 ≤ f .edges
-  first-few v l = omega (arith, links .first-into v (omega (arith, w .nodes)), first-is (λ x. eqb (getD (f .to) x 0) v) (f .edges) 0 .to)
+  first-few v l = begins-in _ _ _ _ links v (omega (arith, w .nodes))
 
 -- ---- a visit that can issue
 

@@ -15,7 +15,7 @@ use Rattle.form.specs.declared.Form.{Form}
 use Rattle.form.specs.Ranges.{WellFormed}
 use Rattle.legal.specs.Loop.{loopOf, pairOf}
 use Rattle.machine.specs.Run.{depth}
-use Rattle.operands.specs.Links.{Links}
+use Rattle.links.specs.Chains.{Chains}
 use Rattle.run.specs.Repeat.{order, repeated}
 use Rattle.run.specs.Units.{Point}
 use Rattle.run.specs.Issue.{machineOf, Sized}
@@ -26,7 +26,7 @@ pub record Equipped (f : Form) (deep : ℕ) (table first next starts : List ℕ)
   pub scheduled : f .length ≢ 0
   pub is-depth : deep ≡ depth (loopOf f) (pairOf f)
   pub in-order : take (f .nodes) table ≡ order (loopOf f) (pairOf f)
-  pub linked : Links (λ e. getD (f .to) e 0) (f .edges) first next
+  pub linked : Chains (λ e. getD (f .to) e 0) (f .edges) first next
   pub for-starts : 15 * f .nodes ≤ length starts
 
 -- before repetition j: room for all places, and the units told
