@@ -31,7 +31,7 @@ use Rattle.system.specs.Rounds.{settledOf}
 use Rattle.legal.specs.Loop.{Loop, Pair, loopOf, pairOf}
 use Rattle.legal.specs.Systems.{knotted, limits}
 use Rattle.legal.specs.Judging.{overStep, unitsOf}
-use Rattle.legal.specs.Handed.{Handed}
+use Rattle.legal.specs.Handed.{Handed, handed-none}
 use Rattle.knots.specs.Found.{KnotFound}
 use Rattle.judge.specs.Early.{read-early}
 use Rattle.fit.specs.declared.Fitting.{Fitting}
@@ -40,15 +40,6 @@ use Rattle.fit.specs.Retimed.{withRetiming, fittedForm, StartsFitted}
 use Rattle.fit.specs.Fitting.{fitOf, fitRecord, fitBuffer, RecordFitted}
 use Rattle.fit.specs.Planned.{Plan, Planned}
 use Rattle.fit.specs.Laws.{Told, bare, knot, unfit, units, fits, past-knots, fit-told, fit-none, fitted-written}
-
--- beside a refusal that no cycle proves none is handed over
-handed-none : (g : Loop) (p : Pair) (r : Refusal) (c : Cycle) → numberOf r ≢ 12 → numberOf r ≢ 14 → c ≡ noCycle → Handed g p r c
-handed-none g p r c unknotted fitting e = record {
-  knot = λ k. absurd (unknotted (ap numberOf k));
-  impossible = λ k. absurd (fitting (ap numberOf k));
-  none = λ k n. e;
-  filled = λ i h. rw e (zeros-at 64 i);
-}
 
 -- ---- a form
 

@@ -23,7 +23,7 @@ use Rattle.reader.specs.Reading.{readForm}
 use Rattle.legal.specs.Loop.{Loop, Pair, graphOf, loopOf, pairOf}
 use Rattle.legal.specs.Shape.{sound-form}
 use Rattle.legal.specs.Systems.{knotted}
-use Rattle.legal.specs.Handed.{Handed}
+use Rattle.legal.specs.Handed.{Handed, handed-none}
 use Rattle.machine.specs.Unique.{Ranks}
 use Rattle.knots.specs.Found.{KnotFound}
 use Rattle.judge.specs.Early.{read-early}
@@ -32,15 +32,6 @@ use Rattle.plain.specs.Answer.{roomOf, plainOf, plainRecord, FormLooped,
 use Rattle.plain.specs.Ascending.{ascending, ascending-sorts}
 use Rattle.plain.specs.Looping.{looped}
 use Rattle.plain.specs.Settled.{looped-plain, looped-kept}
-
--- no cycle stands beside a refusal that none proves
-handed-none : (g : Loop) (p : Pair) (r : Refusal) (c : Cycle) → numberOf r ≢ 12 → numberOf r ≢ 14 → c ≡ noCycle → Handed g p r c
-handed-none g p r c unknotted fitting e = record {
-  knot = λ k. absurd (unknotted (ap numberOf k));
-  impossible = λ k. absurd (fitting (ap numberOf k));
-  none = λ k n. e;
-  filled = λ i h. rw e (zeros-at 64 i);
-}
 
 -- ---- room
 

@@ -14,6 +14,7 @@ use borrow.Author.Count.{below-more}
 use borrow.Author.Tests.{eq-eqb, ne-eqb}
 use Rattle.lists.specs.Pick.{pick, pick-true, pick-false}
 use Rattle.lists.specs.Span.{span, span-length}
+use Rattle.lists.specs.Mapped.{map-snoc}
 use Rattle.form.specs.declared.Form.{Form}
 use Rattle.form.specs.Places.{retimingOf}
 use Rattle.form.specs.Ranges.{WellFormed}
@@ -52,11 +53,6 @@ tights-more f ts e a l is-a all =
 
 unfoldable pub filled : (ℕ → ℕ) → ℕ → List ℕ
 filled f v = map f (span 0 v) ++ replicate (64 - v) 0
-
-map-snoc : (f : ℕ → ℕ) (a n : ℕ) → map f (span a (suc n)) ≡ map f (span a n) ++ (f (a + n) ∷ [])
-unfolding span
-map-snoc f a zero = rw add-zero
-map-snoc f a (suc n) = ap (λ xs. f a ∷ xs) (rw (add-suc, ← suc-add) (map-snoc f (suc a) n))
 
 module _ (f : ℕ → ℕ) where
   pub filled-none : replicate 64 0 ≡ filled f 0

@@ -7,6 +7,7 @@ use native.Mathlib.Omega.{arith}
 use native.Mathlib.Nat.{zero-add, add-zero, add-suc, suc-add, not-suc-le-zero, le-of-suc-le-suc}
 use lib.Dec.{eqb}
 use lib.ListN.{length, getD, replicate, length-append, length-map, length-replicate, List·getD-append}
+use Rattle.lists.specs.Mapped.{mapped-at}
 use Rattle.lists.specs.Span.{span, span-length}
 use Rattle.lists.specs.Fold.{count}
 use Rattle.links.specs.Chains.{Chains}
@@ -39,12 +40,6 @@ pub record Tells (g : Loop) (r : ℕ → ℕ) (edges : ℕ) (first next heads ti
 unfoldable pub weightsOf : Loop → (ℕ → ℕ) → List ℕ
 weightsOf g r = map (weight g r) (span 0 (g .graph .nodes)) ++ replicate (64 - g .graph .nodes) 0
 
-map-at : (f : ℕ → ℕ) (a n i : ℕ) → i < n → getD (map f (span a n)) i 0 ≡ f (a + i)
-unfolding span
-map-at f a zero i l = absurd (not-suc-le-zero l)
-map-at f a (suc n) zero l = rw add-zero
-map-at f a (suc n) (suc i) l = rw (add-suc, ← suc-add) (map-at f (suc a) n i (le-of-suc-le-suc l))
-
 -- the place of a node holds its weight
 pub weights-at : (g : Loop) (r : ℕ → ℕ) (v : ℕ) → v < g .graph .nodes → getD (weightsOf g r) v 0 ≡ weight g r v
 unfolding weightsOf
@@ -54,7 +49,7 @@ weights-at g r v l =
       length-map (span 0 (g .graph .nodes)) (weight g r),
       span-length 0 (g .graph .nodes),
     ) in
-    List·getD-append (map (weight g r) (span 0 (g .graph .nodes))) (replicate (64 - g .graph .nodes) 0) 0 v here ∙ map-at (weight g r) 0 (g .graph .nodes) v l ∙ ap (weight g r) (zero-add v)
+    List·getD-append (map (weight g r) (span 0 (g .graph .nodes))) (replicate (64 - g .graph .nodes) 0) 0 v here ∙ mapped-at (weight g r) 0 (g .graph .nodes) v l ∙ ap (weight g r) (zero-add v)
 
 pub weights-length : (g : Loop) (r : ℕ → ℕ) → g .graph .nodes ≤ 64 → length (weightsOf g r) ≡ 64
 unfolding weightsOf

@@ -29,13 +29,13 @@ use Rattle.legal.specs.Legal.{Legal}
 use Rattle.legal.specs.Judging.{judgeOf}
 use Rattle.legal.specs.Judged.{Judged, bare, knot, rules, judged, judge-accepts}
 use Rattle.legal.specs.Ruled.{dependence, units, kept}
+use Rattle.legal.specs.Handed.{handed-none}
 use Rattle.judge.specs.Judgement.{judgeRecord, RecordJudgement}
 use Rattle.judge.specs.declared.Judged as verdict
 use Rattle.rotation.specs.Pairs.{withPair}
 use Rattle.rotation.specs.Rotation.{rotatedLength, rotated, tooLong, turnedForm, rotatedOr}
 use Rattle.rotation.specs.RotatedLaws.{rotated-written}
 use Rattle.rotation.specs.Scheduling.{scheduleRecord, RecordScheduled, Planned, unturned, turns, rotateAsked, rotatedBy}
-use Rattle.rotation.proofs.Entries.{handed-none}
 
 -- a judge that refuses nothing accepts
 judged-none : (g : Loop) (p : Pair) (r : Refusal) → Judged g p r → fine r ≡ true → r ≡ None

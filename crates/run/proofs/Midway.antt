@@ -14,7 +14,7 @@ use lib.ListN.{length, getD, take, drop, drop-of-length-le}
 use lib.Seq.{drop-cons, getD-take}
 use Rattle.lists.specs.Pick.{pick, pick-ind, pick-true, pick-false, both-ways}
 use Rattle.lists.specs.Fold.{fold}
-use Rattle.lists.specs.Tests.{both}
+use Rattle.lists.specs.Both.{and-both}
 use Rattle.lists.specs.Quotient.{divided, rows-below}
 use Rattle.answer.specs.Refused.{fine}
 use Rattle.answer.specs.declared.Refusal.{Refusal}
@@ -78,7 +78,7 @@ abbrev pub hasOne : ℕ → ℕ → ℕ → ℕ → Bool
 hasOne deep j r k = leb deep (j + r) && ltb (j + r) (deep + k)
 
 pub has-low : (deep j r k : ℕ) → hasOne deep j r k ≡ true → deep ≤ j + r
-has-low deep j r k e = leb-true _ _ (both _ _ e .0)
+has-low deep j r k e = leb-true _ _ (and-both _ _ e .0)
 
 module _ (g : Loop) (p : Pair) (starts : List ℕ) (k j v : ℕ) (begins : 1 ≤ p .start v) (ends : p .start v ≤ p .length) where
   rep-is : ((stepIn g p starts k j (p .start v) - 1) / p .length ≡ j) × ((stepIn g p starts k j (p .start v) - 1) % p .length ≡ p .start v - 1)
@@ -171,7 +171,7 @@ module _ (f : Form) (k : ℕ) (starts : List ℕ) (j : ℕ) where
             low-enough : (deep ≤ j + retimingOf f (getD table i 0)) × (j + retimingOf f (getD table i 0) < deep + k)
             low-enough = (
               has-low deep j (retimingOf f (getD table i 0)) k some,
-              ltb-true (j + retimingOf f (getD table i 0)) (deep + k) (both (leb deep (j + retimingOf f (getD table i 0))) (ltb (j + retimingOf f (getD table i 0)) (deep + k)) some .1),
+              ltb-true (j + retimingOf f (getD table i 0)) (deep + k) (and-both (leb deep (j + retimingOf f (getD table i 0))) (ltb (j + retimingOf f (getD table i 0)) (deep + k)) some .1),
             )
 
             pub midway-told : (x t : ℕ) → x ≡ j + retimingOf f (getD table i 0) - deep → t ≡ j * f .length + startOf f (getD table i 0)
