@@ -8,7 +8,7 @@ use Prim.Native.Nat.{ℕ, suc, _+_, _-_, _*_, _/_, _%_, _≤_, _<_, min}
 use native.Mathlib.Numerals.{add-one}
 use native.Mathlib.Omega.{arith}
 use lib.Dec.{eqb, ltb}
-use lib.ListN.{length, getD, drop, drop-of-length-le}
+use lib.ListN.{length, getD, drop, drop-of-length-le, List·getD-eq-default}
 use lib.Seq.{drop-cons}
 use borrow.Author.Needs.{needs}
 use borrow.Author.Tests.{le-ltb, lt-ltb, eq-eqb, ne-eqb}
@@ -20,7 +20,7 @@ use Rattle.words.specs.declared.Number.{Number}
 use Rattle.words.specs.declared.Number.the-variants.{Is, Not}
 use Rattle.words.specs.Numbers.{placeText, numeral, longerBy, numberFrom, numberIn}
 use Rattle.words.specs.Commands.{sameWord}
-use Rattle.words.specs.Refusals.{edgeText, edgesText}
+use Rattle.words.specs.Refusals.{edgeText, edgesText, shapeTexts, ruleTexts, reasonText}
 
 pub ruleset tests = (needs, le-ltb, lt-ltb, eq-eqb, ne-eqb)
 
@@ -116,3 +116,37 @@ module _ (l : List ℕ) (at n place : ℕ) where
 pub edges-whole : (l : List ℕ) (at : ℕ) (answer m : List ℕ) (i e : ℕ) → Laid l at (rows (edgeText answer) i) m e → i ≡ min (getD answer 4 0) 64 → Laid l at (edgesText answer) m e
 unfolding edgesText
 edges-whole l at answer m i e x h = rw h at x
+
+-- ---- refusals by number
+
+module _ (l : List ℕ) (at : ℕ) (texts : List (List ℕ)) (m : List ℕ) (e : ℕ) where
+  pub named : (n k : ℕ) → n ≡ k → Laid l at (getD texts k []) m e → Laid l at (getD texts n []) m e
+  named n k h x = rw h x
+
+  pub named-rule : (n k : ℕ) → n ≡ k → Laid l at (getD texts (k - 11) []) m e → Laid l at (getD texts (n - 11) []) m e
+  named-rule n k h x = rw h x
+
+-- past the table there is no text
+pub unnamed : (l : List ℕ) (at : ℕ) (texts : List (List ℕ)) (n : ℕ) → length texts ≤ n → Laid l at (getD texts n []) l at
+unnamed l at texts n h = rw (List·getD-eq-default texts [] {n = n} h) (nothing l at)
+
+-- 0 is no refusal
+pub none-named : (l : List ℕ) (at offset n : ℕ) → n ≡ 0 → Laid l at (getD (shapeTexts offset) n []) l at
+unfolding shapeTexts
+none-named l at offset n h = rw h (nothing l at)
+
+module _ (answer : List ℕ) (from to : ℕ) (l : List ℕ) (at : ℕ) (m : List ℕ) (e : ℕ) where
+  pub shape-reason : getD answer 0 0 < 11 → Laid l at (getD (shapeTexts (getD answer 1 0)) (getD answer 0 0) []) m e → Laid l at (reasonText answer from to) m e
+  unfolding reasonText
+  shape-reason h x = rw (pick-true _ _ _ (lt-ltb _ 11 h)) x
+
+  pub rule-reason : 11 ≤ getD answer 0 0 → Laid l at (getD (ruleTexts answer from to) (getD answer 0 0 - 11) []) m e → Laid l at (reasonText answer from to) m e
+  unfolding reasonText
+  rule-reason h x = rw (pick-false _ _ _ (le-ltb _ 11 h)) x
+
+-- one number more that it is not
+pub not-highest : (n k : ℕ) → n ≤ k + 1 → n ≢ k + 1 → n ≤ k
+not-highest n k h f = omega arith
+
+pub not-lowest : (n k : ℕ) → k ≤ n → n ≢ k → k + 1 ≤ n
+not-lowest n k h f = omega arith

@@ -1,8 +1,10 @@
 -- A refusal as a line: its number, its name, and its details by their meaning.
 -- Assumes nothing.
 use mathlib.Core.List.{List, [], _∷_, _++_}
-use Prim.Native.Nat.{ℕ, _+_, min}
+use Prim.Native.Nat.{ℕ, _+_, _-_, min}
+use lib.Dec.{ltb}
 use lib.ListN.{getD}
+use Rattle.lists.specs.Pick.{pick}
 use Rattle.writer.specs.Layout.{rows}
 use Rattle.listing.specs.Text.{newline, refusedWord}
 use Rattle.words.specs.Numbers.{numeral}
@@ -77,25 +79,29 @@ shapeTexts offset =
     ∷ oneText tailWord offset
     ∷ []
 
--- the others, from 11 on: of a, b and c, the details; of the edge that breaks its rule, its nodes
-unfoldable pub ruleTexts : List ℕ → ℕ → ℕ → ℕ → ℕ → ℕ → List (List ℕ)
-ruleTexts answer a b c from to =
-    bareWord
-    ∷ cycleText knotWord answer
-    ∷ threeText dependenceWord a fromWord from toWord to
-    ∷ cycleText noRetimingWord answer
-    ∷ twoText unitsWord a classWord b
-    ∷ (oneText sizeWord a ++ stepsWord)
-    ∷ longWord
-    ∷ (oneText roomWord a ++ roomEnd)
-    ∷ threeText earlyWord a atNodeWord b atEdgeWord c
-    ∷ threeText busyWord a atNodeWord b classWord c
-    ∷ []
+-- the others, from 11 on: of the answer's details and its cycle; of the edge that breaks its rule, its nodes
+module _ (answer : List ℕ) (from to : ℕ) where
+  abbrev detail : ℕ → ℕ
+  detail i = getD answer i 0
 
--- the name and the details of the refusal that an answer holds
-unfoldable pub reasonText : List ℕ → ℕ → ℕ → List ℕ
-reasonText answer from to =
-    getD (shapeTexts (getD answer 1 0) ++ ruleTexts answer (getD answer 1 0) (getD answer 2 0) (getD answer 3 0) from to) (getD answer 0 0) []
+  unfoldable pub ruleTexts : List (List ℕ)
+  ruleTexts =
+      bareWord
+      ∷ cycleText knotWord answer
+      ∷ threeText dependenceWord (detail 1) fromWord from toWord to
+      ∷ cycleText noRetimingWord answer
+      ∷ twoText unitsWord (detail 1) classWord (detail 2)
+      ∷ (oneText sizeWord (detail 1) ++ stepsWord)
+      ∷ longWord
+      ∷ (oneText roomWord (detail 1) ++ roomEnd)
+      ∷ threeText earlyWord (detail 1) atNodeWord (detail 2) atEdgeWord (detail 3)
+      ∷ threeText busyWord (detail 1) atNodeWord (detail 2) classWord (detail 3)
+      ∷ []
 
-unfoldable pub refusalLine : List ℕ → ℕ → ℕ → List ℕ
-refusalLine answer from to = (refusedWord ++ numeral (getD answer 0 0)) ++ (32 ∷ (reasonText answer from to ++ newline))
+  -- the name and the details of the refusal that the answer holds
+  unfoldable pub reasonText : List ℕ
+  reasonText =
+      pick (ltb (detail 0) 11) (getD (shapeTexts (detail 1)) (detail 0) []) (getD ruleTexts (detail 0 - 11) [])
+
+  unfoldable pub refusalLine : List ℕ
+  refusalLine = (refusedWord ++ numeral (detail 0)) ++ (32 ∷ (reasonText ++ newline))

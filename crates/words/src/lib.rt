@@ -1,7 +1,7 @@
 // The words of the command line: commands, decimal numbers, and refusals as lines that a person reads.
 ghost use mathlib.Core.Path.{_≡_};
 ghost use mathlib.Core.List.{[], _∷_, _++_};
-ghost use Prim.Native.Nat.{_+_, _≤_, _<_, min};
+ghost use Prim.Native.Nat.{_+_, _-_, _≤_, _<_, min};
 ghost use lib.ListN.{length, getD};
 ghost use Rattle.writer.specs.Laid.{Laid};
 ghost use Rattle.words.specs.Numbers.{placeText, highText, lowText, numeral, longerBy, numberIn};
@@ -283,7 +283,7 @@ fn put_cycle(out: &mut [u8], at: usize, word: &[u8], answer: &[u32; 69]) -> usiz
 
 // The refusals of a record's fields, by number: the name and the offset.
 fn put_shape(out: &mut [u8], at: usize, number: u32, offset: u32) -> usize
-    requires { ⌜ at ≤ 1000 ⌝ }
+    requires { ⌜ (at ≤ 1000) × (number < 11) ⌝ }
     ensures { λ r. ⌜ (r ≤ at + 1000) × Laid (now (out .entry)) at (getD (shapeTexts offset) number []) (now (out .exit)) r ⌝ }
 {
     match number {
@@ -299,4 +299,56 @@ fn put_shape(out: &mut [u8], at: usize, number: u32, offset: u32) -> usize
         10 => put_one(out, at, b"Tail: bytes left from byte ", offset),
         _ => at,
     }
+}
+
+// The other refusals, from 11 on: the name, and the details by their meaning.
+fn put_rule(out: &mut [u8], at: usize, number: u32, answer: &[u32; 69], from: u32, to: u32) -> usize
+    requires { ⌜ (at ≤ 1000) × (11 ≤ number) ⌝ }
+    ensures { λ r. ⌜ (r ≤ at + 1000) × Laid (now (out .entry)) at (getD (ruleTexts (now (answer .entry)) from to) (number - 11) []) (now (out .exit)) r ⌝ }
+{
+    let a = answer[1];
+    let b = answer[2];
+    let c = answer[3];
+    match number {
+        11 => put_word(out, at, b"Bare: no schedule"),
+        12 => put_cycle(out, at, b"Knot: cycle of edges", answer),
+        13 => put_three(out, at, b"Dependence: edge ", a, b", from node ", from, b" to node ", to),
+        14 => put_cycle(out, at, b"NoRetiming: cycle of edges", answer),
+        15 => put_two(out, at, b"Units: step ", a, b", class ", b),
+        16 => put_amid(out, at, b"Size: ", a, b" steps"),
+        17 => put_word(out, at, b"Long: more than 512 steps"),
+        18 => put_amid(
+            out,
+            at,
+            b"Room: buffer ",
+            a,
+            b" is too short; 0 takes 15 start values for each node, 1 and 2 hold 262144 values, iterations times nodes",
+        ),
+        19 => put_three(out, at, b"Early: run step ", a, b", node ", b, b", edge ", c),
+        20 => put_three(out, at, b"Busy: run step ", a, b", node ", b, b", class ", c),
+        _ => at,
+    }
+}
+
+// The name and the details of the refusal that an answer holds.
+fn put_reason(out: &mut [u8], at: usize, number: u32, answer: &[u32; 69], from: u32, to: u32) -> usize
+    requires { ⌜ (at ≤ 1000) × (number ≡ getD (now answer) 0 0) ⌝ }
+    ensures { λ r. ⌜ (r ≤ at + 1000) × Laid (now (out .entry)) at (reasonText (now (answer .entry)) from to) (now (out .exit)) r ⌝ }
+{
+    if number < 11 {
+        return put_shape(out, at, number, answer[1]);
+    }
+    put_rule(out, at, number, answer, from, to)
+}
+
+// The line of the refusal that an answer holds, from the front of `out` on, as far as it goes; the line's
+// size. `from` and `to` are the nodes of the edge that a Dependence names.
+pub fn put_refusal(out: &mut [u8], answer: &[u32; 69], from: u32, to: u32) -> usize
+    ensures { λ r. ⌜ (r ≤ 2000) × Laid (now (out .entry)) 0 (refusalLine (now (answer .entry)) from to) (now (out .exit)) r ⌝ }
+{
+    let number = answer[0];
+    let space = put_one(out, 0, b"refused ", number);
+    let name = put_byte(out, space, b' ');
+    let end = put_reason(out, name, number, answer, from, to);
+    put_byte(out, end, b'\n')
 }
