@@ -187,14 +187,7 @@ fn put_one(out: &mut [u8], at: usize, word: &[u8], number: u32) -> usize
 }
 
 // A word with a number after it, twice.
-fn put_two(
-    out: &mut [u8],
-    at: usize,
-    first: &[u8],
-    a: u32,
-    second: &[u8],
-    b: u32,
-) -> usize
+fn put_two(out: &mut [u8], at: usize, first: &[u8], a: u32, second: &[u8], b: u32) -> usize
     requires { ⌜ at + length (now first) + length (now second) ≤ 500000 ⌝ }
     ensures { λ r. ⌜ (r ≤ at + length (now (first .entry)) + length (now (second .entry)) + 20) × Laid (now (out .entry)) at (twoText (now (first .entry)) a (now (second .entry)) b) (now (out .exit)) r ⌝ }
 {
@@ -312,7 +305,16 @@ fn put_rule(out: &mut [u8], at: usize, number: u32, answer: &[u32; 69], from: u3
     match number {
         11 => put_word(out, at, b"Bare: no schedule"),
         12 => put_cycle(out, at, b"Knot: cycle of edges", answer),
-        13 => put_three(out, at, b"Dependence: edge ", a, b", from node ", from, b" to node ", to),
+        13 => put_three(
+            out,
+            at,
+            b"Dependence: edge ",
+            a,
+            b", from node ",
+            from,
+            b" to node ",
+            to,
+        ),
         14 => put_cycle(out, at, b"NoRetiming: cycle of edges", answer),
         15 => put_two(out, at, b"Units: step ", a, b", class ", b),
         16 => put_amid(out, at, b"Size: ", a, b" steps"),
@@ -324,14 +326,39 @@ fn put_rule(out: &mut [u8], at: usize, number: u32, answer: &[u32; 69], from: u3
             a,
             b" is too short; 0 takes 15 start values for each node, 1 and 2 hold 262144 values, iterations times nodes",
         ),
-        19 => put_three(out, at, b"Early: run step ", a, b", node ", b, b", edge ", c),
-        20 => put_three(out, at, b"Busy: run step ", a, b", node ", b, b", class ", c),
+        19 => put_three(
+            out,
+            at,
+            b"Early: run step ",
+            a,
+            b", node ",
+            b,
+            b", edge ",
+            c,
+        ),
+        20 => put_three(
+            out,
+            at,
+            b"Busy: run step ",
+            a,
+            b", node ",
+            b,
+            b", class ",
+            c,
+        ),
         _ => at,
     }
 }
 
 // The name and the details of the refusal that an answer holds.
-fn put_reason(out: &mut [u8], at: usize, number: u32, answer: &[u32; 69], from: u32, to: u32) -> usize
+fn put_reason(
+    out: &mut [u8],
+    at: usize,
+    number: u32,
+    answer: &[u32; 69],
+    from: u32,
+    to: u32,
+) -> usize
     requires { ⌜ (at ≤ 1000) × (number ≡ getD (now answer) 0 0) ⌝ }
     ensures { λ r. ⌜ (r ≤ at + 1000) × Laid (now (out .entry)) at (reasonText (now (answer .entry)) from to) (now (out .exit)) r ⌝ }
 {
