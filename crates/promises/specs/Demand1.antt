@@ -6,6 +6,7 @@ use mathlib.Core.Bool.{true, false}
 use mathlib.Core.List.{List}
 use Prim.Native.Nat.{ℕ}
 use lib.ListN.{length}
+use lib.Seq.{sets}
 use Rattle.lists.specs.Pick.{pick, pick-false}
 use Rattle.answer.specs.Refused.{numberOf, fine}
 use Rattle.form.specs.declared.Form.{Form}
@@ -29,6 +30,9 @@ use Rattle.judge.specs.declared.Judged.{Judged}
 use Rattle.judge.specs.Judgement.{RecordJudgement}
 use Rattle.fit.specs.declared.Fitted.{Fitted}
 use Rattle.fit.specs.Fitting.{fitRecord, fitBuffer, RecordFitted}
+use Rattle.writer.specs.Layout.{layout}
+use Rattle.rotation.specs.declared.Scheduled.{Scheduled}
+use Rattle.rotation.specs.Scheduling.{RecordScheduled}
 use Rattle.floor.specs.declared.Floored.{Floored}
 use Rattle.floor.specs.declared.Part.the-variants as part
 use Rattle.floor.specs.Floor.{RecordFloored}
@@ -124,6 +128,24 @@ fit-settled s out after again a b p q =
 pub fit-refused : (s out : List ℕ) → fine (fitRecord s (length out)) ≡ false → fitBuffer s out ≡ out
 unfolding fitBuffer
 fit-refused s out e = pick-false (fine (fitRecord s (length out))) _ out e
+
+-- first schedules, rotations and searches, whatever is asked and planned: all but the knot handed over
+module _ (asked : Form → Refusal) (planned : Form → Form) (turned : Form → ℕ) (s out : List ℕ) where
+  pub schedule-settled : (after again : List ℕ) (a b : Scheduled) → RecordScheduled asked planned turned s out after a → RecordScheduled asked planned turned s out again b
+      → (a .refusal ≡ b .refusal) × (a .size ≡ b .size) × (a .rotations ≡ b .rotations) × (after ≡ again)
+      × (a .refusal ≢ refusal.Knot → a .refusal ≢ refusal.NoRetiming → a .cycle ≡ b .cycle)
+  schedule-settled after again a b p q =
+      let same : a .refusal ≡ b .refusal = settled (a .refusal) (b .refusal) (p .refusal) (q .refusal) in (
+        same,
+        settled (a .size) (b .size) (p .size) (q .size ∙ ap (λ r. pick (fine r) (length (layout (planned (readForm s .form)))) 0) (sym same)),
+        settled (a .rotations) (b .rotations) (p .rotations) (q .rotations ∙ ap (λ r. pick (fine r) (turned (readForm s .form)) 0) (sym same)),
+        settled after again (p .buffer) (q .buffer ∙ ap (λ r. pick (fine r) (sets out 0 (layout (planned (readForm s .form)))) out) (sym same)),
+        λ k n. cycle-settled _ _ _ _ _ _ (p .handed) (q .handed) same k n,
+      )
+
+  -- a refusal leaves the buffer as it was
+  pub schedule-refused : (after : List ℕ) (a : Scheduled) → RecordScheduled asked planned turned s out after a → fine (a .refusal) ≡ false → after ≡ out
+  schedule-refused after a p e = p .buffer ∙ pick-false (fine (a .refusal)) _ out e
 
 -- the floor: refusal, floor and part are settled, and so is the cycle where none is handed over
 pub floor-settled : (s : List ℕ) (a b : Floored) → RecordFloored s a → RecordFloored s b

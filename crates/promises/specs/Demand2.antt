@@ -2,7 +2,7 @@
 -- none exists, and one given has the least depth; no legal pair is shorter than the floor.
 -- Assumes nothing.
 use mathlib.Core.Path.{_≡_, ap}
-use mathlib.Core.Bool.{true}
+use mathlib.Core.Bool.{true, false}
 use mathlib.Core.List.{List}
 use mathlib.Core.Logic.{_⊎_}
 use Prim.Native.Nat.{ℕ, _≤_}
@@ -36,6 +36,19 @@ use Rattle.legal.specs.Loop.{Loop, Pair}
 use Rattle.legal.specs.Shape.{Sound}
 use Rattle.legal.specs.Systems.{Fits, Impossible, paces}
 use Rattle.legal.specs.Fitted.{impossible-unfit}
+use borrow.Author.Tests.{ltb-true}
+use Rattle.lists.specs.Place.{zeros-at}
+use Rattle.legal.specs.Systems.{knotted}
+use Rattle.list_rule.specs.Rule.{startAt, listRule}
+use Rattle.list_rule.specs.Filling as filling
+use Rattle.list_rule.specs.Placed.{rule-places}
+use Rattle.rotation.specs.Pairs.{withPair}
+use Rattle.rotation.specs.Rotation.{firstForm, rotatedLength, rotated, tooLong}
+use Rattle.rotation.specs.FirstLaws as firsts
+use Rattle.rotation.specs.RotatedLaws as rotations
+use Rattle.search.specs.Search.{searched}
+use Rattle.search.specs.Met.{met, Ends, Shortest, searched-ends, searched-shortest}
+use Rattle.search.specs.Laws as searches
 use Rattle.fit.specs.Retimed.{fittedForm}
 use Rattle.fit.specs.Fitting.{fitOf}
 use Rattle.fit.specs.Laws as fitting
@@ -209,3 +222,64 @@ floor-below = floor-bound
 -- the part that is named attains it, and no part before it does
 pub floor-named : (g : Loop) → Attains g (partOf g)
 floor-named = named
+
+-- ---- first schedules, of a well-formed form without a knot
+
+module _ (f : Form) (w : WellFormed f) (free : knotted (loopOf f) ≡ false) where
+  -- legal with all retimings 0, and 1 to 512 steps long
+  pub first-legal : Legal (loopOf (firstForm f)) (pairOf (firstForm f))
+  first-legal = firsts.first-form-legal f w free
+
+  pub first-accepted : judgeOf (firstForm f) ≡ None
+  first-accepted = firsts.first-judged f w free
+
+  pub first-unretimed : (v : ℕ) → retimingOf (firstForm f) v ≡ 0
+  unfolding firstForm withPair
+  first-unretimed v = zeros-at 64 v
+
+  pub first-bounded : (1 ≤ firstForm f .length) × (firstForm f .length ≤ 512)
+  first-bounded = firsts.first-form-length f w free
+
+-- the list rule places every node, from starts that end by step 511
+pub list-rule-places : (g : Loop) (r : ℕ → ℕ) → Sound g → filling.Staffed g → filling.Ranked g r → (s : List ℕ) (m : ℕ) → filling.Within g s m → m ≤ 511
+    → (v : ℕ) → v < g .graph .nodes → 1 ≤ startAt (listRule g r s) v
+list-rule-places g r sound staffed ranked s m within l v h = rule-places g r sound staffed ranked s m within l .placed v h
+
+-- ---- rotations, of a well-formed form with a legal pair
+
+module _ (f : Form) (w : WellFormed f) (legal : Legal (loopOf f) (pairOf f)) (z : ℕ) (one : 1 ≤ z) (below : z < f .length) (whole : length (f .start) ≡ 64) where
+  -- a legal pair again, or more than 512 steps
+  pub rotation-legal : Legal (loopOf (rotated f z)) (pairOf (rotated f z))
+  rotation-legal = rotations.rotated-form-legal f w legal z one below whole
+
+  pub rotation-accepted : tooLong f z ≡ false → judgeOf (rotated f z) ≡ None
+  rotation-accepted = rotations.rotated-judged f w legal z one below whole
+
+  pub rotation-long : tooLong f z ≡ true → 512 < rotatedLength f z
+  unfolding tooLong
+  rotation-long = ltb-true _ _
+
+  pub rotation-short : tooLong f z ≡ false → rotatedLength f z ≤ 512
+  rotation-short = rotations.rotated-form-short f w legal z one below whole
+
+-- ---- searches, of a well-formed form without a knot, by up to c rotations of size z
+
+-- where a search ends: at the first pair at which it stops, else after c rotations
+pub search-ends : (f : Form) (c z : ℕ) → Ends f z c (searched f c z .rotations)
+search-ends f c z = searched-ends f z c
+
+-- it answers the shortest of the pairs met, the earliest among equals
+pub search-shortest : (f : Form) (c z : ℕ) → Shortest f z (searched f c z .rotations) (searched f c z .best)
+search-shortest f c z = searched-shortest f z c
+
+module _ (f : Form) (w : WellFormed f) (free : knotted (loopOf f) ≡ false) (z : ℕ) (small : z < 65536) (c : ℕ) where
+  -- every pair met on the way is legal
+  pub search-pairs-accepted : (i : ℕ) → i ≤ searched f c z .rotations → judgeOf (met f z i .now) ≡ None
+  search-pairs-accepted = searches.pair-judged f w free z small c
+
+  -- and so is the one answered
+  pub search-legal : Legal (loopOf (searched f c z .best)) (pairOf (searched f c z .best))
+  search-legal = searches.best-good f w free z small c .legal
+
+  pub search-accepted : judgeOf (searched f c z .best) ≡ None
+  search-accepted = searches.best-judged f w free z small c

@@ -1,6 +1,5 @@
 pub mod Pairs
 pub mod Rotation
-pub mod Search
 pub mod Worked
 pub mod FirstLaws
 pub mod Scheduling

@@ -1,4 +1,4 @@
--- The small loop rotated and searched.
+-- The small loop rotated.
 -- Assumes nothing.
 use mathlib.Core.Path.{_≡_, refl}
 use mathlib.Core.List.{List, [], _∷_, _++_, map}
@@ -25,7 +25,6 @@ use Rattle.list_rule.specs.Turned.{gainedBy, droppedBy}
 use Rattle.list_rule.specs.TurnedLegal.{turnedStarts}
 use Rattle.rotation.specs.Pairs.{withPair}
 use Rattle.rotation.specs.Rotation.{firstForm, rotatedStarts, rotatedLength, rotated, tooLong}
-use Rattle.rotation.specs.Search.{Search, halved, stops, shorter, turn, searchFrom, searched}
 
 -- class 0 of latency 1, class 1 of latency 2; a multiplication, then two additions, round with two delays
 unfoldable pub smallForm : Form
@@ -39,14 +38,9 @@ smallForm =
 unfoldable pub pairIn : Form → List ℕ
 pairIn f = f .length ∷ (take 3 (startsOf f) ++ take 3 (f .retiming))
 
-unfoldable pub found : Search → List ℕ
-found x = x .rotations ∷ pairIn (x .best)
-
 pub worked : (pairIn (firstForm smallForm) ≡ 4 ∷ 1 ∷ 3 ∷ 4 ∷ 0 ∷ 0 ∷ 0 ∷ [])
     × (pairIn (rotated (firstForm smallForm) 1) ≡ 3 ∷ 1 ∷ 2 ∷ 3 ∷ 1 ∷ 0 ∷ 0 ∷ [])
     × (pairIn (rotated (rotated (firstForm smallForm) 1) 1) ≡ 4 ∷ 3 ∷ 1 ∷ 2 ∷ 1 ∷ 0 ∷ 0 ∷ [])
     × (pairIn (rotated (rotated (firstForm smallForm) 1) 2) ≡ 3 ∷ 2 ∷ 2 ∷ 1 ∷ 2 ∷ 1 ∷ 0 ∷ [])
-    × (found (searched smallForm 1 5) ≡ 1 ∷ 2 ∷ 1 ∷ 1 ∷ 2 ∷ 1 ∷ 0 ∷ 0 ∷ [])
-    × (found (searched smallForm 0 5) ≡ 0 ∷ 4 ∷ 1 ∷ 3 ∷ 4 ∷ 0 ∷ 0 ∷ 0 ∷ [])
-unfolding smallForm pairIn found emptyForm pick span count fold top hold graphOf loopOf pairOf lateness limits asks raise raiseAll raises everyEdge round settleFrom settledOf topOf turnedAt retimings tight spread sweep reach reachedFrom weight insert orderOf uses inUse free blocks ready place fillStep allPlaced fillFrom listRule lengthOf firstStarts numbersOf startsOf withPair firstForm gainedBy droppedBy turnedStarts rotatedStarts rotatedLength rotated tooLong halved stops shorter turn searchFrom searched
-worked = (refl, refl, refl, refl, refl, refl)
+unfolding smallForm pairIn emptyForm pick span count fold top hold graphOf loopOf pairOf lateness limits asks raise raiseAll raises everyEdge round settleFrom settledOf topOf turnedAt retimings tight spread sweep reach reachedFrom weight insert orderOf uses inUse free blocks ready place fillStep allPlaced fillFrom listRule lengthOf firstStarts numbersOf startsOf withPair firstForm gainedBy droppedBy turnedStarts rotatedStarts rotatedLength rotated tooLong
+worked = (refl, refl, refl, refl)

@@ -1,4 +1,4 @@
-// First schedules, rotations and searches.
+// First schedules and rotations.
 ghost use mathlib.Core.Bool.{false};
 ghost use mathlib.Core.Logic.{_≢_};
 ghost use mathlib.Core.Path.{_≡_};
@@ -30,11 +30,11 @@ pub struct Scheduled {
 }
 
 // A form with its new pair and the rotations that it took, or what is refused of it with its cycle.
-struct Plan {
-    refusal: Refusal,
-    rotations: u32,
-    cycle: Cycle,
-    form: Form,
+pub struct Plan {
+    pub refusal: Refusal,
+    pub rotations: u32,
+    pub cycle: Cycle,
+    pub form: Form,
 }
 
 // The length of a body: the last step in which a node that starts as given is at work.
@@ -165,7 +165,7 @@ fn told(fine: bool, rotations: u32) -> u32
 }
 
 // A plan into `out`, unless it is refused; a refusal leaves `out` as it was.
-fn write_plan(plan: Plan, out: &mut [u8]) -> Scheduled
+pub fn write_plan(plan: Plan, out: &mut [u8]) -> Scheduled
     ensures { λ r. ⌜ PlanWritten plan (now (out .entry)) (now (out .exit)) r ⌝ }
 {
     let refusal = plan.refusal;

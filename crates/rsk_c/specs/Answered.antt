@@ -4,7 +4,7 @@ use mathlib.Core.Path.{_≡_}
 use mathlib.Core.List.{List}
 use Prim.Native.Nat.{ℕ}
 use Rattle.answer.specs.Refused.{numberOf, details}
-use Rattle.answer.specs.Outcome.{answerList}
+use Rattle.answer.specs.Outcome.{noCycle, answerList}
 use Rattle.answer.specs.declared.Refusal.{Refusal}
 use Rattle.answer.specs.declared.Details.{Details}
 use Rattle.answer.specs.declared.Cycle.{Cycle}
@@ -15,6 +15,11 @@ use Rattle.fit.specs.Fitting.{RecordFitted}
 use Rattle.rotation.specs.declared.Scheduled.{Scheduled}
 use Rattle.rotation.specs.Rotation.{firstForm}
 use Rattle.rotation.specs.Scheduling.{RecordScheduled, firstAsked, unturned, rotateAsked, rotatedBy}
+use Rattle.search.specs.Searching.{searchAsked, searchForm, searchTurns}
+use Rattle.run.specs.declared.Ran.{Ran}
+use Rattle.run.specs.Running.{RecordRun}
+use Rattle.plain.specs.declared.Looped.{Looped}
+use Rattle.plain.specs.Answer.{RecordLooped}
 use Rattle.floor.specs.declared.Floored.{Floored}
 use Rattle.floor.specs.Floor.{partNumber, partClass, RecordFloored}
 
@@ -43,7 +48,22 @@ abbrev pub RotateAnswered : ℕ → List ℕ → List ℕ → List ℕ → ℕ �
 RotateAnswered z s out after =
     Answered Scheduled (RecordScheduled (rotateAsked z) (rotatedBy z) unturned s out after) (λ x. x .refusal) (λ x. details (x .size) 0 0) (λ x. x .cycle)
 
+-- a record searched by count and size: its size and the rotations completed
+abbrev pub SearchAnswered : ℕ → ℕ → List ℕ → List ℕ → List ℕ → ℕ → List ℕ → Type 0
+SearchAnswered c z s out after =
+    Answered Scheduled (RecordScheduled (searchAsked z) (searchForm c z) (searchTurns c z) s out after) (λ x. x .refusal) (λ x. details (x .size) (x .rotations) 0) (λ x. x .cycle)
+
 -- the floor of a record: the floor, its part's number, and the class for part b
 abbrev pub FloorAnswered : List ℕ → ℕ → List ℕ → Type 0
 FloorAnswered s =
     Answered Floored (RecordFloored s) (λ f. f .refusal) (λ f. details (f .floor) (partNumber (f .part)) (partClass (f .part))) (λ f. f .cycle)
+
+-- a record run for k iterations: its run steps
+abbrev pub RunAnswered : ℕ → List ℕ → List ℕ → List ℕ → List ℕ → List ℕ → List ℕ → ℕ → List ℕ → Type 0
+RunAnswered k s starts values₀ finish₀ values finish =
+    Answered Ran (RecordRun s k starts values₀ finish₀ values finish) (λ x. x .refusal) (λ x. details (x .steps) 0 0) (λ x. noCycle)
+
+-- the plain loop of a record for k iterations: no numbers
+abbrev pub PlainAnswered : ℕ → List ℕ → List ℕ → List ℕ → List ℕ → ℕ → List ℕ → Type 0
+PlainAnswered k s starts before after =
+    Answered Looped (RecordLooped s k starts before after) (λ x. x .refusal) (λ x. details 0 0 0) (λ x. x .cycle)

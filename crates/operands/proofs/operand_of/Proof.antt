@@ -2,6 +2,7 @@
 -- Assumes nothing.
 use mathlib.Core.Path.{_≡_}
 use native.Mathlib.Omega.{arith}
+use lib.ListN.{length}
 use borrow.Author.Needs.{needs}
 use borrow.Author.Tests.{le-ltb, lt-ltb}
 use Rattle.lists.specs.Pick.{pick}
@@ -58,7 +59,7 @@ mul-result-4 c =
 shared-slice-read-result-2 : tie.Need-shared-slice-read-result-2
 shared-slice-read-result-2 c =
     let a = c .before .before .args in
-    back-in (a .iteration .0) (a .delays) (a .nodes) (a .from) _ (omega arith) (omega arith)
+    omega (arith, back-in (a .iteration .0) (a .delays) (a .nodes) (a .from) (length (a .values .now)) (omega arith) (omega arith))
 
 returns-2 : tie.Need-returns-2
 unfolding handed pick

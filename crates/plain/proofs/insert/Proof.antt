@@ -1,0 +1,81 @@
+-- `plain::insert` meets its contract: the places passed are as they will be.
+-- Assumes nothing.
+use mathlib.Core.Path.{_≡_, sym, _∙_, ap}
+use mathlib.Core.Bool.{_||_}
+use mathlib.Core.Logic.{⊎-elim}
+use Prim.Native.Nat.{_≤_, _-_}
+use native.Mathlib.Omega.{arith}
+use lib.ListN.{take, length-set}
+use borrow.Author.Needs.{needs}
+use Rattle.list_rule.specs.Order.{insert}
+use Rattle.list_rule.proofs.Ordering.{Inserting, inserting-moved, inserting-kept, placing-none, placing-end}
+use Rattle.plain.specs.Ascending.{lead, lead-less}
+use Rattle.plain.proofs.insert.Statement.{statement}
+use Rattle.plain.proofs.insert.Tie as tie
+
+abbrev Inv-loop : tie.InvT-loop
+Inv-loop order₀ node rank own carried₀ higher₀ k₀ order carried higher k =
+    (k ≤ node) × Inserting (lead rank) node k higher carried order (insert (lead rank) (take node order₀) node)
+
+abbrev μ-loop : tie.MeasureT-loop
+μ-loop order₀ node rank own carried₀ higher₀ k₀ order carried higher k = node - k
+
+mul-own : tie.Need-mul-own Inv-loop μ-loop
+mul-own c = search needs
+
+element-copy-out-own : tie.Need-element-copy-out-own Inv-loop μ-loop
+element-copy-out-own c = search needs
+
+loop-holds : tie.Need-loop-holds Inv-loop μ-loop
+loop-holds c = (search needs, record { size = c .before .pre .0 .0; small = λ i a b. c .before .pre .1 i b; placing = placing-none _ _ _ _ })
+
+cast-i : tie.Need-cast-i Inv-loop μ-loop
+cast-i c = search needs
+
+element-copy-out-u : tie.Need-element-copy-out-u Inv-loop μ-loop
+element-copy-out-u c = search needs
+
+cast-passed : tie.Need-cast-passed Inv-loop μ-loop
+cast-passed c = omega (arith, c .before .before .loop .inv .1 .small (c .before .before .loop .k) (omega arith) (omega arith))
+
+mul-passed : tie.Need-mul-passed Inv-loop μ-loop
+mul-passed c = omega (arith, c .before .before .loop .inv .1 .small (c .before .before .loop .k) (omega arith) (omega arith))
+
+element-copy-out-passed : tie.Need-element-copy-out-passed Inv-loop μ-loop
+element-copy-out-passed c = c .before .before .loop .inv .1 .small (c .before .before .loop .k) (omega arith) (omega arith)
+
+passed-requires : tie.Need-passed-requires Inv-loop μ-loop
+passed-requires c κs = search needs
+
+element-write-order : tie.Need-element-write-order Inv-loop μ-loop
+element-write-order c = search needs
+
+add-k : tie.Need-add-k Inv-loop μ-loop
+add-k c = search needs
+
+loop-less : tie.Need-loop-less Inv-loop μ-loop
+loop-less c = search needs
+
+loop-again : tie.Need-loop-again Inv-loop μ-loop
+loop-again c =
+    let l = c .before .before .before .before .before in
+    let next = c .before .passed .ensures ∙ ap (λ b. l .loop .higher || b) (sym (lead-less (l .before .before .args .rank .now) _ (l .before .before .args .node))) in (
+      search needs,
+      ⊎-elim
+          (λ w. inserting-moved _ _ _ _ _ _ _ (l .loop .inv .1) (omega arith) (omega arith) _ next _ _ (w .0 .taken) (w .1) (w .2))
+          (λ w. inserting-kept _ _ _ _ _ _ _ (l .loop .inv .1) (omega arith) (omega arith) _ next _ _ (w .0 .left) (w .1) (w .2))
+          (c .if1 .came),
+    )
+
+element-write-order-2 : tie.Need-element-write-order-2 Inv-loop μ-loop
+element-write-order-2 c = search needs
+
+returns : tie.Need-returns Inv-loop μ-loop
+returns c =
+    let l = c .before in
+    let s = l .loop .inv .1 in
+    let e : l .loop .k ≡ l .before .before .args .node = omega arith in
+    (simp length-set (s .size), placing-end _ _ _ _ _ _ _ (omega (arith, s .size)) (rw e at (s .placing)))
+
+pub insert-spec : {M : Type 1} → statement M
+insert-spec = tie.close (tie.spec Inv-loop μ-loop mul-own element-copy-out-own loop-holds cast-i element-copy-out-u cast-passed mul-passed element-copy-out-passed passed-requires element-write-order add-k loop-less loop-again element-write-order-2 returns)

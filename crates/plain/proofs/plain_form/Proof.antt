@@ -1,0 +1,63 @@
+-- `plain::plain_form` meets its contract: a knot, room, then the loop.
+-- Assumes nothing.
+use mathlib.Core.Path.{sym, _∙_}
+use native.Mathlib.Omega.{arith}
+use borrow.Author.Needs.{needs}
+use borrow.Author.Tests.{not-true, not-false}
+use Rattle.legal.specs.Loop.{loopOf}
+use Rattle.list_rule.proofs.Ordering.{table-below}
+use Rattle.knots.specs.Found.{ends-form, told-form}
+use Rattle.plain.specs.Ascending.{lead}
+use Rattle.plain.proofs.Answers.{room-for, looped-knot, looped-refused, looped-done}
+use Rattle.plain.proofs.plain_form.Statement.{statement}
+use Rattle.plain.proofs.plain_form.Tie as tie
+
+ranked-requires : tie.Need-ranked-requires
+ranked-requires c κs = ends-form _ (c .before .before .before .before .before .before .pre)
+
+returns : tie.Need-returns
+returns c =
+    let s = c .before .before .before .before .before .before .before .before .before .before in
+    looped-knot (s .args .t1) _ _ _ _ (c .before .before .before .ranked .ensures (loopOf (s .args .t1)) (told-form (s .args .t1)) .found) (omega (arith, c .if1 .taken))
+
+room-of-requires : tie.Need-room-of-requires
+room-of-requires c κs = search needs
+
+is-fine-requires : tie.Need-is-fine-requires
+is-fine-requires c κs = search needs
+
+alone-requires : tie.Need-alone-requires
+alone-requires c κs = search needs
+
+returns-2 : tie.Need-returns-2
+returns-2 c =
+    let s = c .before .before .before .before .before .before .before .before .before .before .before .before .before .before in
+    looped-refused (s .args .t1) _ _ _ _ (c .before .before .before .before .before .before .before .ranked .ensures (loopOf (s .args .t1)) (told-form (s .args .t1)) .found) (omega (arith, c .before .before .before .before .if1 .left)) _ (c .before .before .before .room-of .ensures) _ (c .alone .ensures .1)
+    (sym (c .before .before .is-fine .ensures) ∙ not-true _ (c .before .if2 .taken)) (c .alone .ensures .0)
+
+order-of-requires : tie.Need-order-of-requires
+order-of-requires c κs = search needs
+
+iterate-all-requires : tie.Need-iterate-all-requires
+iterate-all-requires c κs =
+    let s = c .before .before .before .before .before .before .before .before .before .before .before .before .before .before .before .before .before in
+    let fits = room-for (s .args .t1 .nodes) _ _ _ _ (c .before .before .before .before .before .before .room-of .ensures) (sym (c .before .before .before .before .before .is-fine .ensures) ∙ not-false _ (c .before .before .before .before .if2 .left)) in
+    let o = c .before .order-of .ensures in
+    (s .pre, ((o .0, table-below _ (s .args .t1 .nodes) (s .args .t1 .nodes) _ (omega arith) (omega (arith, s .pre .nodes .0)) (o .1)), fits))
+
+alone-requires-2 : tie.Need-alone-requires-2
+alone-requires-2 c κs = search needs
+
+same-length : tie.Need-same-length
+same-length c = search needs
+
+returns-3 : tie.Need-returns-3
+returns-3 c =
+    let s = c .before .before .before .before .before .before .before .before .before .before .before .before .before .before .before .before .before .before .before .before .before in
+    let f = c .before .before .before .before .before .before .before .before .before .before .before .before .before .before .ranked .ensures (loopOf (s .args .t1)) (told-form (s .args .t1)) in
+    let free = c .before .before .before .before .before .before .before .before .before .before .before .if1 .left in
+    looped-done (s .args .t1) _ _ _ _ (f .found) free _ (c .before .before .before .before .before .before .before .before .before .before .room-of .ensures) _ (c .alone2 .ensures .1) (s .pre) _ (f .rises (omega arith))
+    (sym (c .before .before .before .before .before .before .before .before .before .is-fine .ensures) ∙ not-false _ (c .before .before .before .before .before .before .before .before .if2 .left)) (c .alone2 .ensures .0) _ (c .before .before .before .before .before .order-of .ensures .1) _ (c .before .before .before .iterate-all .ensures)
+
+pub plain-form-spec : {M : Type 1} → statement M
+plain-form-spec = tie.close (tie.spec ranked-requires returns room-of-requires is-fine-requires alone-requires returns-2 order-of-requires iterate-all-requires alone-requires-2 same-length returns-3)

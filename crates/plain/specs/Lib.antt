@@ -1,0 +1,5 @@
+pub mod Looping
+pub mod Ascending
+pub mod Settled
+pub mod Answer
+pub mod Only

@@ -1,0 +1,185 @@
+// The plain loop: iteration after iteration, each node after those whose values it needs.
+ghost use mathlib.Core.Bool.{_||_};
+ghost use mathlib.Core.Path.{_≡_};
+ghost use Prim.Native.Nat.{ℕ, _+_, _*_, _≤_, _<_};
+ghost use lib.Dec.{ltb};
+ghost use lib.ListN.{length, getD, take};
+ghost use Rattle.answer.specs.Outcome.{noCycle};
+ghost use Rattle.form.specs.Ranges.{WellFormed};
+ghost use Rattle.legal.specs.Loop.{loopOf};
+ghost use Rattle.list_rule.specs.Order.{insert as insertIn};
+ghost use Rattle.operands.specs.Given.{LinksOf};
+ghost use Rattle.operands.specs.Tables.{HasRoom};
+ghost use Rattle.plain.specs.Ascending.{lead, ascending};
+ghost use Rattle.plain.specs.Looping.{iterated, looped};
+ghost use Rattle.plain.specs.Answer.{roomOf, FormLooped, RecordLooped};
+use answer::Cycle;
+use answer::Refusal;
+use form::Form;
+use machine::Iteration;
+
+// The refusal, None where the loop was run, and the cycle that proves a knot.
+pub struct Looped {
+    pub refusal: Refusal,
+    pub cycle: Cycle,
+}
+
+// A node of higher rank is passed, now or before.
+fn passed(before: bool, own: u32, rank: u32) -> bool
+    ensures { λ r. ⌜ r ≡ before || ltb own rank ⌝ }
+{
+    if before {
+        return true;
+    }
+    own < rank
+}
+
+// `node` goes before the first of the nodes so far whose rank is higher; from there on each moves one place.
+fn insert(order: &mut [u8; 64], node: u8, rank: &[u32; 64])
+    requires { ⌜ (length (now order) ≡ 64) × (node < 64) ⌝ }
+    requires { ⌜ ((i : ℕ) → i < node → getD (now order) i 0 < 64) ⌝ }
+    ensures { λ _. ⌜ (length (now (order .exit)) ≡ 64) × (take (node + 1) (now (order .exit)) ≡ insertIn (lead (now (rank .entry))) (take node (now (order .entry))) node) ⌝ }
+{
+    let own = rank[node as usize];
+    let mut carried = node;
+    let mut higher = false;
+    for k in 0..node {
+        let i = k as usize;
+        let u = order[i];
+        higher = passed(higher, own, rank[u as usize]);
+        if higher {
+            order[i] = carried;
+            carried = u;
+        }
+    }
+    order[node as usize] = carried;
+}
+
+// The nodes by ascending rank, then number.
+fn order_of(nodes: u8, rank: &[u32; 64]) -> [u8; 64]
+    requires { ⌜ nodes ≤ 64 ⌝ }
+    ensures { λ r. ⌜ (length r ≡ 64) × (take nodes r ≡ ascending (now (rank .entry)) nodes) ⌝ }
+{
+    let mut order = [0u8; 64];
+    for v in 0..nodes {
+        insert(&mut order, v, rank);
+    }
+    order
+}
+
+// One iteration: each node in order, its value stored at its place.
+fn iterate<'a>(
+    form: Form,
+    order: &'a [u8; 64],
+    first: &'a [u16; 64],
+    next: &'a [u16; 256],
+    iteration: Iteration,
+    starts: &'a [u32],
+    values: &mut [u32],
+)
+    requires { ⌜ WellFormed form × LinksOf form (now first) (now next) ⌝ }
+    requires { ⌜ (length (now order) ≡ 64) × ((k : ℕ) → k < form .nodes → getD (now order) k 0 < form .nodes) ⌝ }
+    requires { ⌜ HasRoom (form .nodes) (iteration .0) (now starts) (now values) ⌝ }
+    ensures { λ _. ⌜ now (values .exit) ≡ iterated (loopOf form) (now (starts .entry)) (take (form .nodes) (now (order .entry))) (now (values .entry)) (iteration .0) ⌝ }
+{
+    let nodes = form.nodes;
+    let row = iteration.0 as usize * nodes as usize;
+    for k in 0..nodes {
+        let v = order[k as usize] as usize;
+        let node = form.node[v];
+        let operation = node.operation;
+        let value = operands::value_of(
+            operation,
+            first[v],
+            nodes,
+            form.edges,
+            iteration,
+            &form.from,
+            &form.delays,
+            next,
+            starts,
+            values,
+        );
+        values[row + v] = value;
+    }
+}
+
+// So many iterations, one after the other.
+fn iterate_all(form: Form, order: [u8; 64], iterations: u16, starts: &[u32], values: &mut [u32])
+    requires { ⌜ WellFormed form ⌝ }
+    requires { ⌜ (length order ≡ 64) × ((k : ℕ) → k < form .nodes → getD order k 0 < form .nodes) ⌝ }
+    requires { ⌜ (15 * form .nodes ≤ length (now starts)) × (iterations * form .nodes ≤ length (now values)) ⌝ }
+    ensures { λ _. ⌜ now (values .exit) ≡ looped (loopOf form) (now (starts .entry)) (take (form .nodes) order) iterations (now (values .entry)) ⌝ }
+{
+    let links = operands::incoming_of(&form.to, form.edges);
+    for i in 0..iterations {
+        let iteration = Iteration(i as u32);
+        iterate(
+            form,
+            &order,
+            &links.first,
+            &links.next,
+            iteration,
+            starts,
+            values,
+        );
+    }
+}
+
+// A refusal that no cycle stands beside.
+fn alone(refusal: Refusal) -> Looped
+    ensures { λ r. ⌜ (r .refusal ≡ refusal) × (r .cycle ≡ noCycle) ⌝ }
+{
+    Looped {
+        refusal,
+        cycle: Cycle::none(),
+    }
+}
+
+// Room for the start table, then for the values.
+fn room_of(nodes: u8, iterations: u16, starts: usize, values: usize) -> Refusal
+    ensures { λ r. ⌜ r ≡ roomOf nodes iterations starts values ⌝ }
+{
+    if starts < 15 * nodes as usize {
+        return Refusal::Room(0);
+    }
+    if values < iterations as usize * nodes as usize {
+        return Refusal::Room(1);
+    }
+    Refusal::None
+}
+
+// The plain loop of a form, or what is refused of it: a knot, then room.
+pub fn plain_form(form: Form, iterations: u16, starts: &[u32], values: &mut [u32]) -> Looped
+    requires { ⌜ WellFormed form ⌝ }
+    ensures { λ r. ⌜ FormLooped form iterations (now (starts .entry)) (now (values .entry)) (now (values .exit)) r ⌝ }
+{
+    let ranking = knots::ranked(form.nodes, form.edges, &form.from, &form.to, &form.delays);
+    let cycle = ranking.cycle;
+    if 0 < cycle.count {
+        return Looped {
+            refusal: Refusal::Knot,
+            cycle,
+        };
+    }
+    let refusal = room_of(form.nodes, iterations, starts.len(), values.len());
+    if !refusal.is_fine() {
+        return alone(refusal);
+    }
+    let order = order_of(form.nodes, &ranking.rank);
+    iterate_all(form, order, iterations, starts, values);
+    alone(Refusal::None)
+}
+
+// The plain loop of a record, or what is refused of it: by the reader first. A refusal writes nothing.
+pub fn plain(record: &[u8], iterations: u16, starts: &[u32], values: &mut [u32]) -> Looped
+    ensures { λ r. ⌜ RecordLooped (now («record» .entry)) iterations (now (starts .entry)) (now (values .entry)) (now (values .exit)) r ⌝ }
+{
+    let read = reader::read(record);
+    let refusal = read.refusal;
+    if !refusal.is_fine() {
+        return alone(refusal);
+    }
+    let form = read.form;
+    plain_form(form, iterations, starts, values)
+}
