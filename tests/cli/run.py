@@ -100,7 +100,9 @@ floor 4, part c: the cycle of nodes 0 1
 shortest
 """
 
-# arguments, standard input, standard output, standard error
+ROOM = b"refused 18 Room: buffer %d is too short; 0 takes 15 start values for each node, 1 and 2 hold 262144 values, iterations times nodes\n"
+
+# arguments, standard input, standard output, standard error; STARTS and SHORT are files of start values
 CASES = [
     (["judge"], GOOD, b"legal\n", b""),
     (["floor"], GOOD, b"floor 2, part a: the largest latency of a used class\n", b""),
@@ -136,6 +138,20 @@ CASES = [
     (["rotate", "2"], GOOD, b"", b"refused 16 Size: 2 steps\n"),
     (["rotate", "65535"], GOOD, b"", b"refused 16 Size: 65535 steps\n"),
     (["rotate", "1"], CHAIN, b"", b"refused 17 Long: more than 512 steps\n"),
+    # searches, runs and the plain loop
+    (["search", "1", "5"], BARE, GOOD, b""),
+    (["search", "0", "5"], BARE, FIRST, b""),
+    (["search", "1", "0"], BARE, b"", b"refused 16 Size: 0 steps\n"),
+    (["run", "0"], GOOD, b"run steps 2\n", b""),
+    (["run", "3", "STARTS"], GOOD, b"run steps 8\nnode 0: 66\nnode 1: 67\nnode 2: 67\n", b""),
+    (["plain", "3", "STARTS"], GOOD, b"node 0: 66\nnode 1: 67\nnode 2: 67\n", b""),
+    (["plain", "3"], GOOD, b"node 0: 3\nnode 1: 4\nnode 2: 4\n", b""),
+    (["run", "3", "SHORT"], GOOD, b"", ROOM % 0),
+    (["run", "65535"], CHAIN, b"", ROOM % 1),
+    (["plain", "65535"], CHAIN, b"", ROOM % 1),
+    (["run", "3"], WRONG, b"", b"refused 19 Early: run step 1, node 1, edge 0\n"),
+    (["run", "3"], CROWDED, b"", b"refused 20 Busy: run step 2, node 1, class 0\n"),
+    (["run", "1", "/nowhere/at/all"], GOOD, b"", b"/nowhere/at/all: No such file or directory\n"),
     # bad usage
     ([], GOOD, b"", USAGE),
     (["Judge"], GOOD, b"", USAGE),
@@ -161,25 +177,6 @@ CYCLES = [
     (["first"], KNOTTED, b"refused 12 Knot: cycle of edges", [0, 1]),
     (["fit"], APART, b"refused 14 NoRetiming: cycle of edges", [0, 1, 2]),
 ]
-
-# what needs searches, runs and the plain loop
-ROOM = b"refused 18 Room: buffer %d is too short; 0 takes 15 start values for each node, 1 and 2 hold 262144 values, iterations times nodes\n"
-LATER = [
-    (["search", "1", "5"], BARE, GOOD, b""),
-    (["search", "0", "5"], BARE, FIRST, b""),
-    (["search", "1", "0"], BARE, b"", b"refused 16 Size: 0 steps\n"),
-    (["run", "0"], GOOD, b"run steps 2\n", b""),
-    (["run", "3", "STARTS"], GOOD, b"run steps 8\nnode 0: 66\nnode 1: 67\nnode 2: 67\n", b""),
-    (["plain", "3", "STARTS"], GOOD, b"node 0: 66\nnode 1: 67\nnode 2: 67\n", b""),
-    (["plain", "3"], GOOD, b"node 0: 3\nnode 1: 4\nnode 2: 4\n", b""),
-    (["run", "3", "SHORT"], GOOD, b"", ROOM % 0),
-    (["run", "65535"], CHAIN, b"", ROOM % 1),
-    (["plain", "65535"], CHAIN, b"", ROOM % 1),
-    (["run", "3"], WRONG, b"", b"refused 19 Early: run step 1, node 1, edge 0\n"),
-    (["run", "3"], CROWDED, b"", b"refused 20 Busy: run step 2, node 1, class 0\n"),
-    (["run", "1", "/nowhere/at/all"], GOOD, b"", b"/nowhere/at/all: No such file or directory\n"),
-]
-
 
 def ran(program, words, given):
     done = subprocess.run([program] + words, input=given, stdout=subprocess.PIPE, stderr=subprocess.PIPE)
@@ -212,10 +209,7 @@ def main():
     with open(short, "wb") as file:
         file.write(bytes(4 * 44))
 
-    cases = list(CASES)
-    if ran(PROGRAM, ["search", "0", "1"], BARE)[1] == b"":
-        cases += LATER
-    for words, given, out, told in cases:
+    for words, given, out, told in CASES:
         words = [{"STARTS": starts, "SHORT": short}.get(word, word) for word in words]
         hold(words, ran(PROGRAM, words, given), (out, told, 0))
         hold(["bin/rsk"] + words, ran(SCRIPT, words, given), (out, told, 1 if told else 0))

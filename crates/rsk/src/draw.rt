@@ -234,7 +234,7 @@ fn draw_heads(form: Form) {
 }
 
 // The classes, then the table.
-pub fn draw(form: Form) {
+pub(crate) fn draw(form: Form) {
     draw_class(form, 0);
     draw_class(form, 1);
     draw_class(form, 2);

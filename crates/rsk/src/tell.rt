@@ -10,17 +10,12 @@ fn usage_to(fd: i32) {
     io::write_all(fd, b"  run K [FILE] | plain K [FILE]\n");
 }
 
-pub fn usage() {
+pub(crate) fn usage() {
     usage_to(STDERR_FILENO);
 }
 
-// A command that the library does not have yet.
-pub fn missing() {
-    io::write_all(STDERR_FILENO, b"rsk: this command is not built in yet\n");
-}
-
 // The usage, and what each command writes.
-pub fn help() {
+pub(crate) fn help() {
     usage_to(STDOUT_FILENO);
     io::write_all(
         STDOUT_FILENO,
@@ -49,7 +44,7 @@ pub fn help() {
 }
 
 // How many bytes of a buffer a size names.
-pub fn size_in(size: u32, out: &[u8]) -> usize
+pub(crate) fn size_in(size: u32, out: &[u8]) -> usize
     ensures { λ r. ⌜ Counts r (now (out .entry)) ⌝ }
 {
     io::count(size as isize, out)
@@ -60,7 +55,7 @@ fn wide(x: u8) -> u32 {
 }
 
 // The node at an edge's end; 0 where there is no such edge.
-pub fn end_of(ends: &[u8; 256], edge: u32) -> u32 {
+pub(crate) fn end_of(ends: &[u8; 256], edge: u32) -> u32 {
     if 256 <= edge {
         return 0;
     }
@@ -68,7 +63,7 @@ pub fn end_of(ends: &[u8; 256], edge: u32) -> u32 {
 }
 
 // The line of a refusal.
-pub fn refusal(record: &[u8], answer: &[u32; 69]) {
+pub(crate) fn refusal(record: &[u8], answer: &[u32; 69]) {
     let read = reader::read(record);
     let form = read.form;
     let edge = answer[1];
@@ -80,12 +75,12 @@ pub fn refusal(record: &[u8], answer: &[u32; 69]) {
     io::write_all(STDERR_FILENO, &text[..length]);
 }
 
-pub fn print_number(number: u32) {
+pub(crate) fn print_number(number: u32) {
     io::print_decimal(STDOUT_FILENO, number as u64);
 }
 
 // A word and a number after it.
-pub fn print_field(word: &[u8], number: u32) {
+pub(crate) fn print_field(word: &[u8], number: u32) {
     io::write_all(STDOUT_FILENO, word);
     print_number(number);
 }
@@ -108,7 +103,7 @@ fn print_cycle(ends: &[u8; 256], answer: &[u32; 69]) {
 }
 
 // A floor and its reason.
-pub fn print_floor(record: &[u8], answer: &[u32; 69]) {
+pub(crate) fn print_floor(record: &[u8], answer: &[u32; 69]) {
     let read = reader::read(record);
     let form = read.form;
     print_field(b"floor ", answer[1]);

@@ -7,7 +7,7 @@ use crate::tell;
 use libc::STDOUT_FILENO;
 use words::Command;
 
-pub fn judge() {
+pub(crate) fn judge() {
     let mut bytes = io::buffer();
     let length = io::read_full(0, &mut bytes);
     let mut answer = [0u32; 69];
@@ -18,7 +18,7 @@ pub fn judge() {
     io::write_all(STDOUT_FILENO, b"legal\n");
 }
 
-pub fn floor() {
+pub(crate) fn floor() {
     let mut bytes = io::buffer();
     let length = io::read_full(0, &mut bytes);
     let mut answer = [0u32; 69];
@@ -30,7 +30,7 @@ pub fn floor() {
 }
 
 // What the judge refuses is no listing here.
-pub fn list() {
+pub(crate) fn list() {
     let mut bytes = io::buffer();
     let length = io::read_full(0, &mut bytes);
     let mut answer = [0u32; 69];
@@ -44,7 +44,7 @@ pub fn list() {
     io::write_all(STDOUT_FILENO, &out[..size]);
 }
 
-pub fn table() {
+pub(crate) fn table() {
     let mut bytes = io::buffer();
     let length = io::read_full(0, &mut bytes);
     let mut answer = [0u32; 69];
@@ -77,11 +77,11 @@ fn ask(
         Command::Fit => rsk_c::rsk_fit(record, out, answer),
         Command::First => rsk_c::rsk_first(record, out, answer),
         Command::Rotate => rsk_c::rsk_rotate(record, a, out, answer),
-        _ => rsk_c::rsk_rewrite(record, out, answer),
+        _ => rsk_c::rsk_search(record, a, b, out, answer),
     }
 }
 
-pub fn rewrite(command: Command, a: u16, b: u16) {
+pub(crate) fn rewrite(command: Command, a: u16, b: u16) {
     let mut bytes = io::buffer();
     let length = io::read_full(0, &mut bytes);
     let mut out = io::buffer();
@@ -196,8 +196,8 @@ fn ask_repeat<'a>(
     answer: &mut [u32; 69],
 ) -> u32 {
     match command {
-        Command::Run => rsk_c::rsk_judge(record, answer),
-        _ => rsk_c::rsk_judge(record, answer),
+        Command::Run => rsk_c::rsk_run(record, k, starts, values, finish, answer),
+        _ => rsk_c::rsk_plain(record, k, starts, values, answer),
     }
 }
 
@@ -237,7 +237,7 @@ fn repeat_named(command: Command, k: u16, fd: i32) {
 }
 
 // The start values are all 0, or a file's.
-pub fn repeat(command: Command, k: u16, named: bool) {
+pub(crate) fn repeat(command: Command, k: u16, named: bool) {
     let mut name = io::buffer();
     let long = os::arg(3, &mut name);
     if !named {
