@@ -1,9 +1,9 @@
 -- `words::command_of` meets its contract: each name is tried in turn.
 -- Assumes nothing.
-use Rattle.words.specs.Commands.{commandOf, judgeName, floorName, listName, tableName, runName, plainName, helpName}
-use Rattle.lists.specs.Pick.{pick-true, pick-false}
 use mathlib.Core.Path.{sym, _∙_}
 use borrow.Author.Needs.{needs}
+use Rattle.lists.specs.Pick.{pick-true, pick-false}
+use Rattle.words.specs.Commands.{commandOf, judgeName, floorName, listName, tableName, runName, plainName, helpName}
 use Rattle.words.proofs.command_of.Statement.{statement}
 use Rattle.words.proofs.command_of.Tie as tie
 

@@ -1,8 +1,8 @@
 -- `words::longer` meets its contract: no digit, too large, or one digit more.
 -- Assumes nothing.
 use native.Mathlib.Omega.{arith}
-use Rattle.words.proofs.Laws.{below-digits, above-digits, too-large, one-digit-more}
 use borrow.Author.Needs.{needs}
+use Rattle.words.proofs.Laws.{below-digits, above-digits, too-large, one-digit-more}
 use Rattle.words.proofs.longer.Statement.{statement}
 use Rattle.words.proofs.longer.Tie as tie
 

@@ -1,12 +1,12 @@
 -- `words::number_of` meets its contract: what is left makes of the number so far what the word is.
 -- Assumes nothing.
-use Rattle.words.proofs.Laws.{no-digits, some-digits, number-none, number-more, number-whole}
-use Rattle.words.specs.Numbers.{numberFrom, numberIn}
-use borrow.Author.Needs.{needs}
+use mathlib.Core.Path.{_≡_}
+use Prim.Native.Nat.{_≤_, _<_, _-_}
 use native.Mathlib.Omega.{arith}
 use lib.ListN.{length, drop}
-use Prim.Native.Nat.{_≤_, _<_, _-_}
-use mathlib.Core.Path.{_≡_}
+use borrow.Author.Needs.{needs}
+use Rattle.words.specs.Numbers.{numberFrom, numberIn}
+use Rattle.words.proofs.Laws.{no-digits, some-digits, number-none, number-more, number-whole}
 use Rattle.words.proofs.number_of.Statement.{statement}
 use Rattle.words.proofs.number_of.Tie as tie
 

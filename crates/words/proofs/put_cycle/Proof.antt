@@ -1,8 +1,8 @@
 -- `words::put_cycle` meets its contract: a word, then the edges.
 -- Assumes nothing.
-use Rattle.words.specs.Refusals.{cycleText}
-use Rattle.writer.proofs.Laws.{both}
 use borrow.Author.Needs.{needs}
+use Rattle.writer.proofs.Laws.{both}
+use Rattle.words.specs.Refusals.{cycleText}
 use Rattle.words.proofs.put_cycle.Statement.{statement}
 use Rattle.words.proofs.put_cycle.Tie as tie
 

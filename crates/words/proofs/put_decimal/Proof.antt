@@ -1,8 +1,8 @@
 -- `words::put_decimal` meets its contract: the high places, then the low ones.
 -- Assumes nothing.
-use Rattle.words.specs.Numbers.{numeral}
-use Rattle.writer.proofs.Laws.{both}
 use borrow.Author.Needs.{needs}
+use Rattle.writer.proofs.Laws.{both}
+use Rattle.words.specs.Numbers.{numeral}
 use Rattle.words.proofs.put_decimal.Statement.{statement}
 use Rattle.words.proofs.put_decimal.Tie as tie
 

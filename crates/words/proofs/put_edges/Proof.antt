@@ -1,13 +1,13 @@
 -- `words::put_edges` meets its contract: the rows of the edges before i are laid.
 -- Assumes nothing.
-use Rattle.words.proofs.Laws.{edges-whole}
-use Rattle.words.specs.Refusals.{edgeText}
+use Prim.Native.Nat.{_+_, _*_, _-_, _≤_}
+use native.Mathlib.Omega.{arith}
+use borrow.Author.Needs.{needs}
 use Rattle.writer.proofs.Laws.{nothing, row-more, same-long}
 use Rattle.writer.specs.Laid.{Laid}
 use Rattle.writer.specs.Layout.{rows}
-use borrow.Author.Needs.{needs}
-use native.Mathlib.Omega.{arith}
-use Prim.Native.Nat.{_+_, _*_, _-_, _≤_}
+use Rattle.words.specs.Refusals.{edgeText}
+use Rattle.words.proofs.Laws.{edges-whole}
 use Rattle.words.proofs.put_edges.Statement.{statement}
 use Rattle.words.proofs.put_edges.Tie as tie
 

@@ -1,8 +1,8 @@
 -- `words::put_place` meets its contract: nothing, or one digit.
 -- Assumes nothing.
-use Rattle.words.proofs.Laws.{no-digit, digit-put}
 use native.Mathlib.Omega.{arith}
 use borrow.Author.Needs.{needs}
+use Rattle.words.proofs.Laws.{no-digit, digit-put}
 use Rattle.words.proofs.put_place.Statement.{statement}
 use Rattle.words.proofs.put_place.Tie as tie
 

@@ -1,8 +1,8 @@
 -- `words::put_reason` meets its contract: a field of the record, or a rule.
 -- Assumes nothing.
-use Rattle.words.proofs.Laws.{shape-reason, rule-reason}
 use native.Mathlib.Omega.{arith}
 use borrow.Author.Needs.{needs}
+use Rattle.words.proofs.Laws.{shape-reason, rule-reason}
 use Rattle.words.proofs.put_reason.Statement.{statement}
 use Rattle.words.proofs.put_reason.Tie as tie
 

@@ -1,10 +1,10 @@
 -- `words::put_refusal` meets its contract: the number, a space, the reason, the end of the line.
 -- Assumes nothing.
-use Rattle.listing.specs.Text.{refusedWord}
-use Rattle.words.specs.Refusals.{refusalLine, oneText}
-use Rattle.writer.proofs.Laws.{both}
 use native.Mathlib.Omega.{arith}
 use borrow.Author.Needs.{needs}
+use Rattle.listing.specs.Text.{refusedWord}
+use Rattle.writer.proofs.Laws.{both}
+use Rattle.words.specs.Refusals.{refusalLine, oneText}
 use Rattle.words.proofs.put_refusal.Statement.{statement}
 use Rattle.words.proofs.put_refusal.Tie as tie
 

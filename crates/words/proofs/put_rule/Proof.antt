@@ -1,12 +1,12 @@
 -- `words::put_rule` meets its contract: the text of each number from 11 on.
 -- Assumes nothing.
 use Prim.Native.Nat.{_-_, _≤_}
-use Rattle.words.proofs.Laws.{named-rule, unnamed, not-lowest}
-use Rattle.words.proofs.Laws.{named-rule, unnamed}
-use Rattle.words.specs.Words.{bareWord, knotWord, dependenceWord, fromWord, toWord, noRetimingWord, unitsWord, classWord, sizeWord, stepsWord, longWord, roomWord, roomEnd, earlyWord, atNodeWord, atEdgeWord, busyWord}
-use Rattle.words.specs.Refusals.{ruleTexts}
 use native.Mathlib.Omega.{arith}
 use borrow.Author.Needs.{needs}
+use Rattle.words.specs.Words.{bareWord, knotWord, dependenceWord, fromWord, toWord, noRetimingWord, unitsWord, classWord, sizeWord, stepsWord, longWord, roomWord, roomEnd, earlyWord, atNodeWord, atEdgeWord, busyWord}
+use Rattle.words.specs.Refusals.{ruleTexts}
+use Rattle.words.proofs.Laws.{named-rule, unnamed, not-lowest}
+use Rattle.words.proofs.Laws.{named-rule, unnamed}
 use Rattle.words.proofs.put_rule.Statement.{statement}
 use Rattle.words.proofs.put_rule.Tie as tie
 

@@ -1,12 +1,12 @@
 -- `words::put_shape` meets its contract: the text of each number.
 -- Assumes nothing.
 use Prim.Native.Nat.{_≤_}
-use Rattle.words.proofs.Laws.{named, none-named, not-highest}
-use Rattle.words.proofs.Laws.{named, none-named}
-use Rattle.words.specs.Words.{shortWord, markWord, versionWord, countWord, machineWord, nodeWord, edgeWord, startWord, retimingWord, tailWord}
-use Rattle.words.specs.Refusals.{shapeTexts}
 use native.Mathlib.Omega.{arith}
 use borrow.Author.Needs.{needs}
+use Rattle.words.specs.Words.{shortWord, markWord, versionWord, countWord, machineWord, nodeWord, edgeWord, startWord, retimingWord, tailWord}
+use Rattle.words.specs.Refusals.{shapeTexts}
+use Rattle.words.proofs.Laws.{named, none-named, not-highest}
+use Rattle.words.proofs.Laws.{named, none-named}
 use Rattle.words.proofs.put_shape.Statement.{statement}
 use Rattle.words.proofs.put_shape.Tie as tie
 

@@ -1,8 +1,8 @@
 -- `words::put_three` meets its contract: two words with their numbers, then a third.
 -- Assumes nothing.
-use Rattle.words.specs.Refusals.{threeText}
-use Rattle.writer.proofs.Laws.{both}
 use borrow.Author.Needs.{needs}
+use Rattle.writer.proofs.Laws.{both}
+use Rattle.words.specs.Refusals.{threeText}
 use Rattle.words.proofs.put_three.Statement.{statement}
 use Rattle.words.proofs.put_three.Tie as tie
 

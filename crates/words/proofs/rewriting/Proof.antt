@@ -1,9 +1,9 @@
 -- `words::rewriting` meets its contract: each name is tried in turn.
 -- Assumes nothing.
-use Rattle.words.specs.Commands.{rewritingOf, fitName, firstName, rotateName, searchName}
-use Rattle.lists.specs.Pick.{pick-true, pick-false}
 use mathlib.Core.Path.{sym, _∙_}
 use borrow.Author.Needs.{needs}
+use Rattle.lists.specs.Pick.{pick-true, pick-false}
+use Rattle.words.specs.Commands.{rewritingOf, fitName, firstName, rotateName, searchName}
 use Rattle.words.proofs.rewriting.Statement.{statement}
 use Rattle.words.proofs.rewriting.Tie as tie
 

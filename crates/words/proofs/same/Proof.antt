@@ -1,12 +1,12 @@
 -- `words::same` meets its contract: the bytes that are left are the same as the whole words are.
 -- Assumes nothing.
-use Rattle.words.proofs.Laws.{other-length, other-byte, same-more, same-whole}
-use Rattle.words.specs.Commands.{sameWord}
-use borrow.Author.Needs.{needs}
+use mathlib.Core.Path.{_≡_, refl}
+use Prim.Native.Nat.{_≤_, _-_}
 use native.Mathlib.Omega.{arith}
 use lib.ListN.{length, drop}
-use Prim.Native.Nat.{_≤_, _-_}
-use mathlib.Core.Path.{_≡_, refl}
+use borrow.Author.Needs.{needs}
+use Rattle.words.specs.Commands.{sameWord}
+use Rattle.words.proofs.Laws.{other-length, other-byte, same-more, same-whole}
 use Rattle.words.proofs.same.Statement.{statement}
 use Rattle.words.proofs.same.Tie as tie
 

@@ -1,7 +1,7 @@
 -- `rsk::draw::draw_marks` meets its contract: what is left falls.
 -- Assumes nothing.
-use borrow.Author.Needs.{needs}
 use Prim.Native.Nat.{_-_}
+use borrow.Author.Needs.{needs}
 use Rattle.rsk.proofs.draw.draw_marks.Statement.{statement}
 use Rattle.rsk.proofs.draw.draw_marks.Tie as tie
 
@@ -11,27 +11,21 @@ Inv-loop from units mark i₀ i = Unit {0}
 abbrev μ-loop : tie.MeasureT-loop
 μ-loop from units mark i₀ i = units - i
 
--- src/draw.rt:145:5
 loop-holds : tie.Need-loop-holds Inv-loop μ-loop
 loop-holds c = tt
 
--- src/draw.rt:146:9
 write-all-requires : tie.Need-write-all-requires Inv-loop μ-loop
 write-all-requires c κs = search needs
 
--- src/draw.rt:147:9
 add-i : tie.Need-add-i Inv-loop μ-loop
 add-i c = search needs
 
--- src/draw.rt:145:5
 loop-less : tie.Need-loop-less Inv-loop μ-loop
 loop-less c = search needs
 
--- src/draw.rt:145:5
 loop-again : tie.Need-loop-again Inv-loop μ-loop
 loop-again c = tt
 
--- src/draw.rt:143:1
 returns : tie.Need-returns Inv-loop μ-loop
 returns c = search needs
 

@@ -1,7 +1,7 @@
 -- `rsk::draw::draw_steps` meets its contract: what is left falls.
 -- Assumes nothing.
-use borrow.Author.Needs.{needs}
 use Prim.Native.Nat.{_-_}
+use borrow.Author.Needs.{needs}
 use Rattle.rsk.proofs.draw.draw_steps.Statement.{statement}
 use Rattle.rsk.proofs.draw.draw_steps.Tie as tie
 
@@ -11,31 +11,24 @@ Inv-loop form length step₀ step = Unit {0}
 abbrev μ-loop : tie.MeasureT-loop
 μ-loop form length step₀ step = length - step
 
--- src/draw.rt:191:18
 cast-length : tie.Need-cast-length Inv-loop μ-loop
 cast-length c = search needs
 
--- src/draw.rt:193:5
 loop-holds : tie.Need-loop-holds Inv-loop μ-loop
 loop-holds c = tt
 
--- src/draw.rt:194:9
 add-step : tie.Need-add-step Inv-loop μ-loop
 add-step c = search needs
 
--- src/draw.rt:195:9
 draw-step-requires : tie.Need-draw-step-requires Inv-loop μ-loop
 draw-step-requires c κs = search needs
 
--- src/draw.rt:193:5
 loop-less : tie.Need-loop-less Inv-loop μ-loop
 loop-less c = search needs
 
--- src/draw.rt:193:5
 loop-again : tie.Need-loop-again Inv-loop μ-loop
 loop-again c = tt
 
--- src/draw.rt:190:1
 returns : tie.Need-returns Inv-loop μ-loop
 returns c = search needs
 

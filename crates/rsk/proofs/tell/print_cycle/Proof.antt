@@ -1,7 +1,7 @@
 -- `rsk::tell::print_cycle` meets its contract: its places lie within the answer.
 -- Assumes nothing.
-use borrow.Author.Needs.{needs}
 use Prim.Native.Nat.{_≤_, _-_}
+use borrow.Author.Needs.{needs}
 use Rattle.rsk.proofs.tell.print_cycle.Statement.{statement}
 use Rattle.rsk.proofs.tell.print_cycle.Tie as tie
 
@@ -11,47 +11,36 @@ Inv-loop ends answer count i₀ i = i ≤ 64
 abbrev μ-loop : tie.MeasureT-loop
 μ-loop ends answer count i₀ i = 64 - i
 
--- src/tell.rt:102:17
 element-copy-out-count : tie.Need-element-copy-out-count Inv-loop μ-loop
 element-copy-out-count c = search needs
 
--- src/tell.rt:104:5
 loop-holds : tie.Need-loop-holds Inv-loop μ-loop
 loop-holds c = search needs
 
--- src/tell.rt:105:35
 add-print-member : tie.Need-add-print-member Inv-loop μ-loop
 add-print-member c = search needs
 
--- src/tell.rt:105:28
 mul-print-member : tie.Need-mul-print-member Inv-loop μ-loop
 mul-print-member c = search needs
 
--- src/tell.rt:105:28
 element-copy-out-print-member : tie.Need-element-copy-out-print-member Inv-loop μ-loop
 element-copy-out-print-member c = search needs
 
--- src/tell.rt:105:44
 cast-print-member : tie.Need-cast-print-member Inv-loop μ-loop
 cast-print-member c = search needs
 
--- src/tell.rt:105:9
 print-member-requires : tie.Need-print-member-requires Inv-loop μ-loop
 print-member-requires c κs = search needs
 
--- src/tell.rt:106:9
 add-i : tie.Need-add-i Inv-loop μ-loop
 add-i c = search needs
 
--- src/tell.rt:104:5
 loop-less : tie.Need-loop-less Inv-loop μ-loop
 loop-less c = search needs
 
--- src/tell.rt:104:5
 loop-again : tie.Need-loop-again Inv-loop μ-loop
 loop-again c = search needs
 
--- src/tell.rt:101:1
 returns : tie.Need-returns Inv-loop μ-loop
 returns c = search needs
 

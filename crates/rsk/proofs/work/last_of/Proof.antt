@@ -1,20 +1,17 @@
 -- `rsk::work::last_of` meets its contract: a product of small numbers.
 -- Assumes nothing.
-use Rattle.rsk.proofs.Laws.{product, product-fits}
 use native.Mathlib.Omega.{arith}
 use borrow.Author.Needs.{needs}
+use Rattle.rsk.proofs.Laws.{product, product-fits}
 use Rattle.rsk.proofs.work.last_of.Statement.{statement}
 use Rattle.rsk.proofs.work.last_of.Tie as tie
 
--- src/work.rt:145:6
 sub-result : tie.Need-sub-result
 sub-result c = search needs
 
--- src/work.rt:145:5
 mul-result : tie.Need-mul-result
 mul-result c = product-fits _ _ (omega arith) (omega arith)
 
--- src/work.rt:141:1
 returns : tie.Need-returns
 returns c = product _ _ (omega arith) (omega arith)
 

@@ -1,7 +1,7 @@
 -- `rsk::work::print_values` meets its contract: what is left falls.
 -- Assumes nothing.
-use borrow.Author.Needs.{needs}
 use Prim.Native.Nat.{_≤_, _-_}
+use borrow.Author.Needs.{needs}
 use Rattle.rsk.proofs.work.print_values.Statement.{statement}
 use Rattle.rsk.proofs.work.print_values.Tie as tie
 
@@ -11,35 +11,27 @@ Inv-loop values from nodes v₀ v = v ≤ nodes
 abbrev μ-loop : tie.MeasureT-loop
 μ-loop values from nodes v₀ v = nodes - v
 
--- src/work.rt:163:5
 loop-holds : tie.Need-loop-holds Inv-loop μ-loop
 loop-holds c = search needs
 
--- src/work.rt:164:29
 add-print-value : tie.Need-add-print-value Inv-loop μ-loop
 add-print-value c = search needs
 
--- src/work.rt:164:39
 cast-print-value : tie.Need-cast-print-value Inv-loop μ-loop
 cast-print-value c = search needs
 
--- src/work.rt:164:9
 print-value-requires : tie.Need-print-value-requires Inv-loop μ-loop
 print-value-requires c κs = search needs
 
--- src/work.rt:165:9
 add-v : tie.Need-add-v Inv-loop μ-loop
 add-v c = search needs
 
--- src/work.rt:163:5
 loop-less : tie.Need-loop-less Inv-loop μ-loop
 loop-less c = search needs
 
--- src/work.rt:163:5
 loop-again : tie.Need-loop-again Inv-loop μ-loop
 loop-again c = search needs
 
--- src/work.rt:159:1
 returns : tie.Need-returns Inv-loop μ-loop
 returns c = search needs
 

@@ -1,45 +1,36 @@
 -- `rsk::work::repeat_named` meets its contract: so many start values stand in the table.
 -- Assumes nothing.
+use mathlib.Core.Path.{sym}
 use native.Mathlib.Omega.{arith}
 use lib.Seq.{length-take-le}
-use mathlib.Core.Path.{sym}
 use borrow.Author.Needs.{needs}
 use Rattle.rsk.proofs.work.repeat_named.Statement.{statement}
 use Rattle.rsk.proofs.work.repeat_named.Tie as tie
 
--- src/work.rt:232:21
 buffer-requires : tie.Need-buffer-requires
 buffer-requires c κs = search needs
 
--- src/work.rt:233:36
 slice-aggregate-read-full : tie.Need-slice-aggregate-read-full
 slice-aggregate-read-full c = search needs
 
--- src/work.rt:233:9
 read-full-requires : tie.Need-read-full-requires
 read-full-requires c κs = search needs
 
--- src/work.rt:234:9
 whole-numbers-requires : tie.Need-whole-numbers-requires
 whole-numbers-requires c κs = search needs
 
--- src/work.rt:235:18
 starts-of-requires : tie.Need-starts-of-requires
 starts-of-requires c κs = search needs
 
--- src/work.rt:236:29
 array-share-prefix-starts : tie.Need-array-share-prefix-starts
 array-share-prefix-starts c = search needs
 
--- src/work.rt:236:29
 slice-aggregate-repeat-from : tie.Need-slice-aggregate-repeat-from
 slice-aggregate-repeat-from c = sym (length-take-le _ _ (omega arith))
 
--- src/work.rt:236:5
 repeat-from-requires : tie.Need-repeat-from-requires
 repeat-from-requires c κs = search needs
 
--- src/work.rt:231:1
 returns : tie.Need-returns
 returns c = search needs
 

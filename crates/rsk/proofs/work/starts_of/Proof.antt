@@ -1,9 +1,9 @@
 -- `rsk::work::starts_of` meets its contract: the table keeps its length.
 -- Assumes nothing.
-use borrow.Author.Needs.{needs}
-use lib.ListN.{length}
-use Prim.Native.Nat.{_≤_, _-_}
 use mathlib.Core.Path.{_≡_}
+use Prim.Native.Nat.{_≤_, _-_}
+use lib.ListN.{length}
+use borrow.Author.Needs.{needs}
 use Rattle.rsk.proofs.work.starts_of.Statement.{statement}
 use Rattle.rsk.proofs.work.starts_of.Tie as tie
 
@@ -13,39 +13,30 @@ Inv-loop bytes starts₀ i₀ starts i = (i ≤ 960) × (length starts ≡ 960)
 abbrev μ-loop : tie.MeasureT-loop
 μ-loop bytes starts₀ i₀ starts i = 960 - i
 
--- src/work.rt:133:5
 loop-holds : tie.Need-loop-holds Inv-loop μ-loop
 loop-holds c = search needs
 
--- src/work.rt:134:38
 mul-number-at : tie.Need-mul-number-at Inv-loop μ-loop
 mul-number-at c = search needs
 
--- src/work.rt:134:21
 number-at-requires : tie.Need-number-at-requires Inv-loop μ-loop
 number-at-requires c κs = search needs
 
--- src/work.rt:134:9
 mul-starts : tie.Need-mul-starts Inv-loop μ-loop
 mul-starts c = search needs
 
--- src/work.rt:134:9
 array-write-starts : tie.Need-array-write-starts Inv-loop μ-loop
 array-write-starts c = search needs
 
--- src/work.rt:135:9
 add-i : tie.Need-add-i Inv-loop μ-loop
 add-i c = search needs
 
--- src/work.rt:133:5
 loop-less : tie.Need-loop-less Inv-loop μ-loop
 loop-less c = search needs
 
--- src/work.rt:133:5
 loop-again : tie.Need-loop-again Inv-loop μ-loop
 loop-again c = search needs
 
--- src/work.rt:128:1
 returns : tie.Need-returns Inv-loop μ-loop
 returns c = search needs
 
