@@ -6,6 +6,7 @@ ghost use lib.ListN.{length, getD};
 ghost use Rattle.writer.specs.Laid.{Laid};
 ghost use Rattle.words.specs.Numbers.{placeText, highText, lowText, numeral, longerBy, numberIn};
 ghost use Rattle.words.specs.Commands.{sameWord, rewritingOf, commandOf};
+ghost use Rattle.words.specs.Words.{roomWord, roomEnd};
 ghost use Rattle.words.specs.Refusals.{offsetText, oneText, twoText, threeText, edgesText, cycleText, shapeTexts, ruleTexts, reasonText, refusalLine};
 use listing::put_byte;
 use listing::put_word;
@@ -294,14 +295,12 @@ fn put_shape(out: &mut [u8], at: usize, number: u32, offset: u32) -> usize
     }
 }
 
-// The other refusals, from 11 on: the name, and the details by their meaning.
+// The refusals of a schedule, 11 to 15: the name, and the details by their meaning.
 fn put_rule(out: &mut [u8], at: usize, number: u32, answer: &[u32; 69], from: u32, to: u32) -> usize
-    requires { ⌜ (at ≤ 1000) × (11 ≤ number) ⌝ }
+    requires { ⌜ (at ≤ 1000) × (11 ≤ number) × (number < 16) ⌝ }
     ensures { λ r. ⌜ (r ≤ at + 1000) × Laid (now (out .entry)) at (getD (ruleTexts (now (answer .entry)) from to) (number - 11) []) (now (out .exit)) r ⌝ }
 {
     let a = answer[1];
-    let b = answer[2];
-    let c = answer[3];
     match number {
         11 => put_word(out, at, b"Bare: no schedule"),
         12 => put_cycle(out, at, b"Knot: cycle of edges", answer),
@@ -316,16 +315,43 @@ fn put_rule(out: &mut [u8], at: usize, number: u32, answer: &[u32; 69], from: u3
             to,
         ),
         14 => put_cycle(out, at, b"NoRetiming: cycle of edges", answer),
-        15 => put_two(out, at, b"Units: step ", a, b", class ", b),
+        _ => put_two(out, at, b"Units: step ", a, b", class ", answer[2]),
+    }
+}
+
+// Why a buffer is too short.
+fn put_room(out: &mut [u8], at: usize, buffer: u32) -> usize
+    requires { ⌜ at ≤ 1000 ⌝ }
+    ensures { λ r. ⌜ (r ≤ at + 1000) × Laid (now (out .entry)) at (oneText roomWord buffer ++ roomEnd) (now (out .exit)) r ⌝ }
+{
+    put_amid(
+        out,
+        at,
+        b"Room: buffer ",
+        buffer,
+        b" is too short; 0 takes 15 start values for each node, 1 and 2 hold 262144 values, iterations times nodes",
+    )
+}
+
+// The refusals of a rotation and of a run, from 16 on: the name, and the details by their meaning.
+fn put_limit(
+    out: &mut [u8],
+    at: usize,
+    number: u32,
+    answer: &[u32; 69],
+    from: u32,
+    to: u32,
+) -> usize
+    requires { ⌜ (at ≤ 1000) × (16 ≤ number) ⌝ }
+    ensures { λ r. ⌜ (r ≤ at + 1000) × Laid (now (out .entry)) at (getD (ruleTexts (now (answer .entry)) from to) (number - 11) []) (now (out .exit)) r ⌝ }
+{
+    let a = answer[1];
+    let b = answer[2];
+    let c = answer[3];
+    match number {
         16 => put_amid(out, at, b"Size: ", a, b" steps"),
         17 => put_word(out, at, b"Long: more than 512 steps"),
-        18 => put_amid(
-            out,
-            at,
-            b"Room: buffer ",
-            a,
-            b" is too short; 0 takes 15 start values for each node, 1 and 2 hold 262144 values, iterations times nodes",
-        ),
+        18 => put_room(out, at, a),
         19 => put_three(
             out,
             at,
@@ -365,7 +391,10 @@ fn put_reason(
     if number < 11 {
         return put_shape(out, at, number, answer[1]);
     }
-    put_rule(out, at, number, answer, from, to)
+    if number < 16 {
+        return put_rule(out, at, number, answer, from, to);
+    }
+    put_limit(out, at, number, answer, from, to)
 }
 
 // The line of the refusal that an answer holds, from the front of `out` on, as far as it goes; the line's

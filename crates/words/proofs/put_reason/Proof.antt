@@ -1,4 +1,4 @@
--- `words::put_reason` meets its contract: a field of the record, or a rule.
+-- `words::put_reason` meets its contract: a field of the record, a rule of schedules, or a limit.
 -- Assumes nothing.
 use native.Mathlib.Omega.{arith}
 use borrow.Author.Needs.{needs}
@@ -25,7 +25,16 @@ same-length-2 : tie.Need-same-length-2
 same-length-2 c = search needs
 
 returns-2 : tie.Need-returns-2
-returns-2 c = (omega arith, rule-reason _ _ _ _ _ _ _ (omega arith) (rw (c .before .before .before .before .before .before .pre .1) at (c .before .before .put-rule .ensures .1)))
+returns-2 c = (omega arith, rule-reason _ _ _ _ _ _ _ (omega arith) (rw (c .before .before .before .before .before .before .before .pre .1) at (c .before .before .put-rule .ensures .1)))
+
+put-limit-requires : tie.Need-put-limit-requires
+put-limit-requires c κs = search needs
+
+same-length-3 : tie.Need-same-length-3
+same-length-3 c = search needs
+
+returns-3 : tie.Need-returns-3
+returns-3 c = (omega arith, rule-reason _ _ _ _ _ _ _ (omega arith) (rw (c .before .before .before .before .before .before .before .pre .1) at (c .before .before .put-limit .ensures .1)))
 
 pub put-reason-spec : {M : Type 1} → statement M
 put-reason-spec =
@@ -37,4 +46,7 @@ put-reason-spec =
     returns
     put-rule-requires
     same-length-2
-    returns-2)
+    returns-2
+    put-limit-requires
+    same-length-3
+    returns-3)

@@ -1,23 +1,15 @@
--- `words::put_rule` meets its contract: the text of each number from 11 on.
+-- `words::put_rule` meets its contract: the text of each number from 11 to 15.
 -- Assumes nothing.
-use Prim.Native.Nat.{_-_, _≤_}
 use native.Mathlib.Omega.{arith}
 use borrow.Author.Needs.{needs}
-use Rattle.words.specs.Words.{bareWord, knotWord, dependenceWord, fromWord, toWord, noRetimingWord, unitsWord, classWord, sizeWord, stepsWord, longWord, roomWord, roomEnd, earlyWord, atNodeWord, atEdgeWord, busyWord}
+use Rattle.words.specs.Words.{bareWord, knotWord, dependenceWord, fromWord, toWord, noRetimingWord, unitsWord, classWord}
 use Rattle.words.specs.Refusals.{ruleTexts}
-use Rattle.words.proofs.Laws.{named-rule, unnamed, not-lowest}
-use Rattle.words.proofs.Laws.{named-rule, unnamed}
+use Rattle.words.proofs.Laws.{named-rule}
 use Rattle.words.proofs.put_rule.Statement.{statement}
 use Rattle.words.proofs.put_rule.Tie as tie
 
 element-copy-out-a : tie.Need-element-copy-out-a
 element-copy-out-a c = search needs
-
-element-copy-out-b : tie.Need-element-copy-out-b
-element-copy-out-b c = search needs
-
-element-copy-out-c : tie.Need-element-copy-out-c
-element-copy-out-c c = search needs
 
 slice-aggregate-put-word : tie.Need-slice-aggregate-put-word
 slice-aggregate-put-word c = search needs
@@ -55,138 +47,52 @@ slice-aggregate-put-two c = search needs
 slice-aggregate-put-two-2 : tie.Need-slice-aggregate-put-two-2
 slice-aggregate-put-two-2 c = search needs
 
+element-copy-out-put-two : tie.Need-element-copy-out-put-two
+element-copy-out-put-two c = search needs
+
 put-two-requires : tie.Need-put-two-requires
 put-two-requires c κs = search needs
-
-slice-aggregate-put-amid : tie.Need-slice-aggregate-put-amid
-slice-aggregate-put-amid c = search needs
-
-slice-aggregate-put-amid-2 : tie.Need-slice-aggregate-put-amid-2
-slice-aggregate-put-amid-2 c = search needs
-
-put-amid-requires : tie.Need-put-amid-requires
-put-amid-requires c κs = search needs
-
-slice-aggregate-put-word-2 : tie.Need-slice-aggregate-put-word-2
-slice-aggregate-put-word-2 c = search needs
-
-put-word-requires-2 : tie.Need-put-word-requires-2
-put-word-requires-2 c κs = search needs
-
-slice-aggregate-put-amid-3 : tie.Need-slice-aggregate-put-amid-3
-slice-aggregate-put-amid-3 c = search needs
-
-slice-aggregate-put-amid-4 : tie.Need-slice-aggregate-put-amid-4
-slice-aggregate-put-amid-4 c = search needs
-
-put-amid-requires-2 : tie.Need-put-amid-requires-2
-put-amid-requires-2 c κs = search needs
-
-slice-aggregate-put-three-4 : tie.Need-slice-aggregate-put-three-4
-slice-aggregate-put-three-4 c = search needs
-
-slice-aggregate-put-three-5 : tie.Need-slice-aggregate-put-three-5
-slice-aggregate-put-three-5 c = search needs
-
-slice-aggregate-put-three-6 : tie.Need-slice-aggregate-put-three-6
-slice-aggregate-put-three-6 c = search needs
-
-put-three-requires-2 : tie.Need-put-three-requires-2
-put-three-requires-2 c κs = search needs
-
-slice-aggregate-put-three-7 : tie.Need-slice-aggregate-put-three-7
-slice-aggregate-put-three-7 c = search needs
-
-slice-aggregate-put-three-8 : tie.Need-slice-aggregate-put-three-8
-slice-aggregate-put-three-8 c = search needs
-
-slice-aggregate-put-three-9 : tie.Need-slice-aggregate-put-three-9
-slice-aggregate-put-three-9 c = search needs
-
-put-three-requires-3 : tie.Need-put-three-requires-3
-put-three-requires-3 c κs = search needs
 
 same-length : tie.Need-same-length
 same-length c = search needs
 
 returns : tie.Need-returns
 unfolding ruleTexts bareWord
-returns c = (omega arith, named-rule _ _ (ruleTexts (c .before .before .before .before .before .before .before .before .before .before .args .answer .now) (c .before .before .before .before .before .before .before .before .before .before .args .from) (c .before .before .before .before .before .before .before .before .before .before .args .to)) _ _ _ 11 (c .before .before .before .before .before .match .keys1) (c .before .before .put-word .ensures))
+returns c = (omega arith, named-rule _ _ (ruleTexts (c .before .before .before .before .before .before .before .before .args .answer .now) (c .before .before .before .before .before .before .before .before .args .from) (c .before .before .before .before .before .before .before .before .args .to)) _ _ _ 11 (c .before .before .before .before .before .match .keys1) (c .before .before .put-word .ensures))
 
 same-length-2 : tie.Need-same-length-2
 same-length-2 c = search needs
 
 returns-2 : tie.Need-returns-2
 unfolding ruleTexts knotWord
-returns-2 c = (omega arith, named-rule _ _ (ruleTexts (c .before .before .before .before .before .before .before .before .before .before .args .answer .now) (c .before .before .before .before .before .before .before .before .before .before .args .from) (c .before .before .before .before .before .before .before .before .before .before .args .to)) _ _ _ 12 (c .before .before .before .before .before .match .keys2) (c .before .before .put-cycle .ensures .1))
+returns-2 c = (omega arith, named-rule _ _ (ruleTexts (c .before .before .before .before .before .before .before .before .args .answer .now) (c .before .before .before .before .before .before .before .before .args .from) (c .before .before .before .before .before .before .before .before .args .to)) _ _ _ 12 (c .before .before .before .before .before .match .keys2) (c .before .before .put-cycle .ensures .1))
 
 same-length-3 : tie.Need-same-length-3
 same-length-3 c = search needs
 
 returns-3 : tie.Need-returns-3
 unfolding ruleTexts dependenceWord fromWord toWord
-returns-3 c = (omega arith, named-rule _ _ (ruleTexts (c .before .before .before .before .before .before .before .before .before .before .before .before .args .answer .now) (c .before .before .before .before .before .before .before .before .before .before .before .before .args .from) (c .before .before .before .before .before .before .before .before .before .before .before .before .args .to)) _ _ _ 13 (c .before .before .before .before .before .before .before .match .keys3) (c .before .before .put-three .ensures .1))
+returns-3 c = (omega arith, named-rule _ _ (ruleTexts (c .before .before .before .before .before .before .before .before .before .before .args .answer .now) (c .before .before .before .before .before .before .before .before .before .before .args .from) (c .before .before .before .before .before .before .before .before .before .before .args .to)) _ _ _ 13 (c .before .before .before .before .before .before .before .match .keys3) (c .before .before .put-three .ensures .1))
 
 same-length-4 : tie.Need-same-length-4
 same-length-4 c = search needs
 
 returns-4 : tie.Need-returns-4
 unfolding ruleTexts noRetimingWord
-returns-4 c = (omega arith, named-rule _ _ (ruleTexts (c .before .before .before .before .before .before .before .before .before .before .args .answer .now) (c .before .before .before .before .before .before .before .before .before .before .args .from) (c .before .before .before .before .before .before .before .before .before .before .args .to)) _ _ _ 14 (c .before .before .before .before .before .match .keys4) (c .before .before .put-cycle2 .ensures .1))
+returns-4 c = (omega arith, named-rule _ _ (ruleTexts (c .before .before .before .before .before .before .before .before .args .answer .now) (c .before .before .before .before .before .before .before .before .args .from) (c .before .before .before .before .before .before .before .before .args .to)) _ _ _ 14 (c .before .before .before .before .before .match .keys4) (c .before .before .put-cycle2 .ensures .1))
 
 same-length-5 : tie.Need-same-length-5
 same-length-5 c = search needs
 
 returns-5 : tie.Need-returns-5
 unfolding ruleTexts unitsWord classWord
-returns-5 c = (omega arith, named-rule _ _ (ruleTexts (c .before .before .before .before .before .before .before .before .before .before .before .args .answer .now) (c .before .before .before .before .before .before .before .before .before .before .before .args .from) (c .before .before .before .before .before .before .before .before .before .before .before .args .to)) _ _ _ 15 (c .before .before .before .before .before .before .match .keys5) (c .before .before .put-two .ensures .1))
-
-same-length-6 : tie.Need-same-length-6
-same-length-6 c = search needs
-
-returns-6 : tie.Need-returns-6
-unfolding ruleTexts sizeWord stepsWord
-returns-6 c = (omega arith, named-rule _ _ (ruleTexts (c .before .before .before .before .before .before .before .before .before .before .before .args .answer .now) (c .before .before .before .before .before .before .before .before .before .before .before .args .from) (c .before .before .before .before .before .before .before .before .before .before .before .args .to)) _ _ _ 16 (c .before .before .before .before .before .before .match .keys6) (c .before .before .put-amid .ensures .1))
-
-same-length-7 : tie.Need-same-length-7
-same-length-7 c = search needs
-
-returns-7 : tie.Need-returns-7
-unfolding ruleTexts longWord
-returns-7 c = (omega arith, named-rule _ _ (ruleTexts (c .before .before .before .before .before .before .before .before .before .before .args .answer .now) (c .before .before .before .before .before .before .before .before .before .before .args .from) (c .before .before .before .before .before .before .before .before .before .before .args .to)) _ _ _ 17 (c .before .before .before .before .before .match .keys7) (c .before .before .put-word2 .ensures))
-
-same-length-8 : tie.Need-same-length-8
-same-length-8 c = search needs
-
-returns-8 : tie.Need-returns-8
-unfolding ruleTexts roomWord roomEnd
-returns-8 c = (omega arith, named-rule _ _ (ruleTexts (c .before .before .before .before .before .before .before .before .before .before .before .args .answer .now) (c .before .before .before .before .before .before .before .before .before .before .before .args .from) (c .before .before .before .before .before .before .before .before .before .before .before .args .to)) _ _ _ 18 (c .before .before .before .before .before .before .match .keys8) (c .before .before .put-amid2 .ensures .1))
-
-same-length-9 : tie.Need-same-length-9
-same-length-9 c = search needs
-
-returns-9 : tie.Need-returns-9
-unfolding ruleTexts earlyWord atNodeWord atEdgeWord
-returns-9 c = (omega arith, named-rule _ _ (ruleTexts (c .before .before .before .before .before .before .before .before .before .before .before .before .args .answer .now) (c .before .before .before .before .before .before .before .before .before .before .before .before .args .from) (c .before .before .before .before .before .before .before .before .before .before .before .before .args .to)) _ _ _ 19 (c .before .before .before .before .before .before .before .match .keys9) (c .before .before .put-three2 .ensures .1))
-
-same-length-10 : tie.Need-same-length-10
-same-length-10 c = search needs
-
-returns-10 : tie.Need-returns-10
-unfolding ruleTexts busyWord atNodeWord classWord
-returns-10 c = (omega arith, named-rule _ _ (ruleTexts (c .before .before .before .before .before .before .before .before .before .before .before .before .args .answer .now) (c .before .before .before .before .before .before .before .before .before .before .before .before .args .from) (c .before .before .before .before .before .before .before .before .before .before .before .before .args .to)) _ _ _ 20 (c .before .before .before .before .before .before .before .match .keys10) (c .before .before .put-three3 .ensures .1))
-
-returns-11 : tie.Need-returns-11
-unfolding ruleTexts
-returns-11 c = (omega arith, unnamed _ _ (ruleTexts (c .before .before .before .before .before .args .answer .now) (c .before .before .before .before .before .args .from) (c .before .before .before .before .before .args .to)) ((c .before .before .before .before .before .args .number) - 11) (let past : 21 ≤ (c .before .before .before .before .before .args .number) = (not-lowest (c .before .before .before .before .before .args .number) 20 (not-lowest (c .before .before .before .before .before .args .number) 19 (not-lowest (c .before .before .before .before .before .args .number) 18 (not-lowest (c .before .before .before .before .before .args .number) 17 (not-lowest (c .before .before .before .before .before .args .number) 16 (not-lowest (c .before .before .before .before .before .args .number) 15 (not-lowest (c .before .before .before .before .before .args .number) 14 (not-lowest (c .before .before .before .before .before .args .number) 13 (not-lowest (c .before .before .before .before .before .args .number) 12 (not-lowest (c .before .before .before .before .before .args .number) 11 (c .before .before .before .before .before .pre .1) (c .match .rest .0 .0 .0 .0 .0 .0 .0 .0 .0 .1)) (c .match .rest .0 .0 .0 .0 .0 .0 .0 .0 .1)) (c .match .rest .0 .0 .0 .0 .0 .0 .0 .1)) (c .match .rest .0 .0 .0 .0 .0 .0 .1)) (c .match .rest .0 .0 .0 .0 .0 .1)) (c .match .rest .0 .0 .0 .0 .1)) (c .match .rest .0 .0 .0 .1)) (c .match .rest .0 .0 .1)) (c .match .rest .0 .1)) (c .match .rest .1)) in omega (arith, past)))
+returns-5 c = (omega arith, named-rule _ _ (ruleTexts (c .before .before .before .before .before .before .before .before .before .before .args .answer .now) (c .before .before .before .before .before .before .before .before .before .before .args .from) (c .before .before .before .before .before .before .before .before .before .before .args .to)) _ _ (c .before .before .before .before .before .before .before .before .before .before .args .number) 15 (omega arith) (c .before .before .put-two .ensures .1))
 
 pub put-rule-spec : {M : Type 1} → statement M
 put-rule-spec =
     tie.close
     (tie.spec
     element-copy-out-a
-    element-copy-out-b
-    element-copy-out-c
     slice-aggregate-put-word
     put-word-requires
     slice-aggregate-put-cycle
@@ -199,23 +105,8 @@ put-rule-spec =
     put-cycle-requires-2
     slice-aggregate-put-two
     slice-aggregate-put-two-2
+    element-copy-out-put-two
     put-two-requires
-    slice-aggregate-put-amid
-    slice-aggregate-put-amid-2
-    put-amid-requires
-    slice-aggregate-put-word-2
-    put-word-requires-2
-    slice-aggregate-put-amid-3
-    slice-aggregate-put-amid-4
-    put-amid-requires-2
-    slice-aggregate-put-three-4
-    slice-aggregate-put-three-5
-    slice-aggregate-put-three-6
-    put-three-requires-2
-    slice-aggregate-put-three-7
-    slice-aggregate-put-three-8
-    slice-aggregate-put-three-9
-    put-three-requires-3
     same-length
     returns
     same-length-2
@@ -225,15 +116,4 @@ put-rule-spec =
     same-length-4
     returns-4
     same-length-5
-    returns-5
-    same-length-6
-    returns-6
-    same-length-7
-    returns-7
-    same-length-8
-    returns-8
-    same-length-9
-    returns-9
-    same-length-10
-    returns-10
-    returns-11)
+    returns-5)
