@@ -203,15 +203,20 @@ def shortest_pace(form):
     raise ValueError("a loop without a knot settles by 512")
 
 
-def floor(form):
-    """The floor, its part (1 a, 2 b, 3 c), the class for b, the cycle for c."""
+def floor_parts(form):
+    """Part a, part b for each class, and part c."""
     knot(form)
     a = max(form.latency(v) for v in range(len(form.nodes)))
     b = []
     for c, (latency, free, pipelined) in enumerate(form.classes):
         on = sum(1 for row in form.nodes if row[0] == c)
         b.append(-(-on * (1 if pipelined else latency) // free))
-    c = shortest_pace(form)
+    return a, b, shortest_pace(form)
+
+
+def floor(form):
+    """The floor, its part (1 a, 2 b, 3 c), the class for b, the cycle for c."""
+    a, b, c = floor_parts(form)
     best = max(a, max(b), c)
     if a == best:
         return best, 1, 0, []
@@ -223,6 +228,176 @@ def floor(form):
     if len(breaking) != 1:
         raise ValueError("a case's cycle has to be the only one")
     return best, 3, 0, breaking[0]
+
+
+def tight(form, retimings):
+    """The edges of retimed delay 0, as (from, to)."""
+    return [(u, v) for u, v, d in form.edges if d + retimings[u] - retimings[v] == 0]
+
+
+def weights(form, edges):
+    """For each node the number of other nodes reached over these edges."""
+    found = []
+    for v in range(len(form.nodes)):
+        reached, fresh = {v}, {v}
+        while fresh:
+            fresh = {b for a, b in edges if a in fresh} - reached
+            reached |= fresh
+        found.append(len(reached) - 1)
+    return found
+
+
+def list_rule(form, starts, retimings):
+    """Starts for the nodes that have none (0), by the list rule; and the length."""
+    starts, edges = list(starts), tight(form, retimings)
+    weight, busy = weights(form, edges), {}
+
+    def occupy(v):
+        for q in range(starts[v], starts[v] + form.hold(v)):
+            busy[form.nodes[v][0], q] = busy.get((form.nodes[v][0], q), 0) + 1
+
+    def fits(v, p):
+        c = form.nodes[v][0]
+        return all(busy.get((c, q), 0) < form.classes[c][1] for q in range(p, p + form.hold(v)))
+
+    for v in range(len(starts)):
+        if starts[v]:
+            occupy(v)
+    p = 1
+    while 0 in starts:
+        ready = [v for v in range(len(starts)) if not starts[v] and all(
+            starts[a] and starts[a] + form.latency(a) <= p for a, b in edges if b == v)]
+        for v in sorted(ready, key=lambda v: (-weight[v], v)):
+            if fits(v, p):
+                starts[v] = p
+                occupy(v)
+        p += 1
+    return starts, max(starts[v] + form.latency(v) - 1 for v in range(len(starts)))
+
+
+def first(form):
+    """The first schedule."""
+    knot(form)
+    none = [0] * len(form.nodes)
+    starts, length = list_rule(form, none, none)
+    return form.with_pair(starts, length, none)
+
+
+def rotate(form, z):
+    """The form's legal pair rotated by z steps."""
+    judge(form)
+    if z == 0 or z >= form.length:
+        raise Refused(SIZE, z)
+    return turned(form, z)
+
+
+def turned(form, z):
+    retimings = [r + (s <= z) for s, r in zip(form.starts, form.retimings)]
+    starts, length = list_rule(form, [s - z if s > z else 0 for s in form.starts], retimings)
+    if length > 512:
+        raise Refused(LONG)
+    return form.with_pair(starts, length, retiming(form, starts))
+
+
+def search(form, count, size):
+    """The shortest pair met, and the rotations completed."""
+    knot(form)
+    if size == 0:
+        raise Refused(SIZE, 0)
+    here = best = first(form)
+    done, z, met = 0, size, set()
+    while done < count:
+        while z >= here.length:
+            z //= 2
+        if z == 0:
+            break
+        state = z, *here.starts, *here.retimings
+        if state in met:
+            return best, count  # from here on it goes round, with nothing new
+        met.add(state)
+        try:
+            here = turned(here, z)
+        except Refused:
+            break
+        done += 1
+        if here.length < best.length:
+            best = here
+    return best, done
+
+
+def computed(form, v, operands):
+    """What node v makes of its operands, modulo 2^32."""
+    _, operation, value = form.nodes[v]
+    if operation == 0:
+        value += sum(operands)
+    elif operation == 1:
+        value = (operands[0] if operands else 0) - sum(operands[1:]) - value
+    else:
+        for operand in operands:
+            value = value * operand % 2**32
+    return value % 2**32
+
+
+def incoming(form):
+    """For each node its incoming edges in edge order, as (edge, from, delays)."""
+    into = [[] for _ in form.nodes]
+    for number, (u, v, d) in enumerate(form.edges):
+        into[v].append((number, u, d))
+    return into
+
+
+def room(*buffers):
+    """Buffers are (length lent, length needed)."""
+    for number, (lent, needed) in enumerate(buffers):
+        if lent < needed:
+            raise Refused(ROOM, number)
+
+
+def run(form, k, starts, values, finish):
+    """Runs k iterations on the machine; writes values and finish steps, gives the number of run steps."""
+    bare(form)
+    n, depth, length = len(form.nodes), max(form.retimings), form.length
+    room((len(starts), 15 * n), (len(values), k * n), (len(finish), k * n))
+    values[:k * n] = finish[:k * n] = [0] * (k * n)
+    into, issued = incoming(form), [[] for _ in form.classes]
+    beginning = [[v for v in range(n) if form.starts[v] == q] for q in range(length + 1)]
+    for g in range(1, (k + depth) * length + 1):
+        j, q = (g - 1) // length - depth, (g - 1) % length + 1
+        for v in beginning[q]:
+            i = j + form.retimings[v]
+            if not 0 <= i < k:
+                continue
+            operands = []
+            for number, u, d in into[v]:
+                if i < d:
+                    operands.append(starts[15 * u + d - i - 1])
+                    continue
+                place = (i - d) * n + u
+                if not 0 < finish[place] <= g:
+                    raise Refused(EARLY, g, v, number)
+                operands.append(values[place])
+            c = form.nodes[v][0]
+            issued[c] = [h for h in issued[c] if g < h + form.hold(v)]
+            if len(issued[c]) >= form.classes[c][1]:
+                raise Refused(BUSY, g, v, c)
+            issued[c].append(g)
+            values[i * n + v], finish[i * n + v] = computed(form, v, operands), g + form.latency(v)
+    return (k + depth) * length
+
+
+def plain(form, k, starts, lent=None):
+    """The values of k iterations of the plain loop; lent is the room for them, where it is limited."""
+    knot(form)
+    n = len(form.nodes)
+    room((len(starts), 15 * n), (k * n if lent is None else lent, k * n))
+    into, edges, values = incoming(form), tight(form, [0] * n), [0] * (k * n)
+    weight = weights(form, edges)
+    order = sorted(range(n), key=lambda v: -weight[v])  # a node reaches more nodes than any that it reaches
+    for i in range(k):
+        for v in order:
+            values[i * n + v] = computed(form, v, [
+                starts[15 * u + d - i - 1] if i < d else values[(i - d) * n + u] for _, u, d in into[v]])
+    return values
 
 
 def listing(record):

@@ -2,7 +2,8 @@
 """places.py CRATE FUNCTION [NEED..]: the places of a function's code, as the paths that its proof writes.
 
 For each fact to prove it prints what stands on the way back to the beginning: `3 knot-of` is
-`c .before .before .before .knot-of`. KEEP=1 uses the print of the last call.
+`c .before .before .before .knot-of`. A recursive function is named with `+`, as its proof's folder is.
+KEEP=1 uses the print of the last call.
 """
 import os
 import re
@@ -26,7 +27,8 @@ def main():
     folder = f"target/gen-{crate}"
     if not os.environ.get("KEEP"):
         subprocess.run(["rt", "dev", crate, "--generated", folder], stdout=subprocess.DEVNULL, stderr=subprocess.DEVNULL)
-    path = f"{folder}/Rattle.{crate}.proofs/proofs/{function}/Lts.antt"
+    part = f"Lts-{function[1:]}" if function.startswith("+") else "Lts"
+    path = f"{folder}/Rattle.{crate}.proofs/proofs/{function}/{part}.antt"
     text = open(path).read()
     places = records(text)
     for match in re.finditer(r"^ *(?:abbrev )?pub Need-(\S+) : .*\n((?:.+\n)+)", text, re.M):

@@ -9,6 +9,7 @@ use native.Mathlib.Omega.{arith}
 use lib.ListN.{length, take, length-map}
 use lib.Seq.{sets, sets-eq, length-sets, take-append-seam, take-all}
 use Rattle.lists.specs.Span.{span, span-length}
+use Rattle.lists.specs.Mapped.{map-snoc}
 use Rattle.answer.specs.declared.Cycle.{Cycle}
 use Rattle.answer.specs.declared.Refusal.{Refusal}
 use Rattle.answer.specs.declared.Details.{Details}
@@ -25,11 +26,6 @@ sets-front l vs h = rw (sets-eq vs l 0 (rw zero-add h)) (take-append-seam vs _)
 -- a list as long as the one that it is stored into
 pub sets-whole : (l vs : List ℕ) → length vs ≡ length l → sets l 0 vs ≡ vs
 sets-whole l vs h = sym (take-all (length vs) _ (omega (arith, length-sets l 0 vs))) ∙ sets-front l vs (omega arith)
-
-map-snoc : (g : ℕ → ℕ) (a n : ℕ) → map g (span a (suc n)) ≡ map g (span a n) ++ (g (a + n) ∷ [])
-unfolding span
-map-snoc g a zero = rw add-zero
-map-snoc g a (suc n) = ap (λ xs. g a ∷ xs) (rw (add-suc, ← suc-add) (map-snoc g (suc a) n))
 
 -- one place more of a run that a function fills
 pub place-more : (l out : List ℕ) (g : ℕ → ℕ) (at i a : ℕ) → out ≡ sets l at (map g (span 0 i)) → a ≡ g i → sets out (at + i) (a ∷ []) ≡ sets l at (map g (span 0 (i + 1)))

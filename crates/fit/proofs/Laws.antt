@@ -10,6 +10,7 @@ use lib.ListN.{length, getD, set, take, replicate, length-map}
 use lib.Seq.{getD-set-same, getD-set-other, set-at}
 use borrow.Author.Count.{below-more}
 use Rattle.lists.specs.Span.{span, span-length}
+use Rattle.lists.specs.Mapped.{map-snoc}
 use Rattle.lists.specs.Fold.{top}
 use Rattle.form.specs.declared.Form.{Form}
 use Rattle.form.specs.Places.{nodeOf}
@@ -66,11 +67,6 @@ top-next (y ∷ ys) (suc v) = omega (arith, top-next ys v)
 
 pub top-more : (ys : List ℕ) (v : ℕ) → top (take (v + 1) ys) ≡ max (top (take v ys)) (getD ys v 0)
 top-more ys v = rw add-one (top-next ys v)
-
-map-snoc : (g : ℕ → ℕ) (a n : ℕ) → map g (span a (suc n)) ≡ map g (span a n) ++ (g (a + n) ∷ [])
-unfolding span
-map-snoc g a zero = rw add-zero
-map-snoc g a (suc n) = ap (λ xs. g a ∷ xs) (rw (add-suc, ← suc-add) (map-snoc g (suc a) n))
 
 module _ (h : ℕ) (ys : List ℕ) where
   pub turned-none : replicate 64 0 ≡ turnedOver h ys 0

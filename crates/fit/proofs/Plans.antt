@@ -31,24 +31,15 @@ use Rattle.system.specs.Rounds.{settledOf}
 use Rattle.legal.specs.Loop.{Loop, Pair, loopOf, pairOf}
 use Rattle.legal.specs.Systems.{knotted, limits}
 use Rattle.legal.specs.Judging.{overStep, unitsOf}
-use Rattle.legal.specs.Handed.{Handed}
+use Rattle.legal.specs.Handed.{Handed, handed-none}
 use Rattle.knots.specs.Found.{KnotFound}
 use Rattle.judge.specs.Early.{read-early}
 use Rattle.fit.specs.declared.Fitting.{Fitting}
-use Rattle.fit.specs.declared.Plan.{Plan}
+use Rattle.fit.specs.declared.Fitted.{Fitted}
 use Rattle.fit.specs.Retimed.{withRetiming, fittedForm, StartsFitted}
 use Rattle.fit.specs.Fitting.{fitOf, fitRecord, fitBuffer, RecordFitted}
-use Rattle.fit.specs.Planned.{Planned}
+use Rattle.fit.specs.Planned.{Plan, Planned}
 use Rattle.fit.specs.Laws.{Told, bare, knot, unfit, units, fits, past-knots, fit-told, fit-none, fitted-written}
-
--- beside a refusal that no cycle proves none is handed over
-handed-none : (g : Loop) (p : Pair) (r : Refusal) (c : Cycle) → numberOf r ≢ 12 → numberOf r ≢ 14 → c ≡ noCycle → Handed g p r c
-handed-none g p r c unknotted fitting e = record {
-  knot = λ k. absurd (unknotted (ap numberOf k));
-  impossible = λ k. absurd (fitting (ap numberOf k));
-  none = λ k n. e;
-  filled = λ i h. rw e (zeros-at 64 i);
-}
 
 -- ---- a form
 
@@ -122,6 +113,10 @@ told-none g p r (unfit n free none) e = both-ways e refl
 told-none g p r (units n free s q c t) e = both-ways e refl
 told-none g p r (fits n free s u) e = refl
 
+-- what writing a form answers, beside a cycle
+abbrev answer : Form → Cycle → ℕ → Fitted
+answer f c room = record { refusal = written f room .refusal; size = written f room .size; cycle = c }
+
 module _ (s out : List ℕ) where
   refused : (r : Refusal) (c : Cycle) → r ≡ fitRecord s (length out) → fine r ≡ false → Handed (loopOf (readForm s .form)) (pairOf (readForm s .form)) r c
       → RecordFitted s out out (record { refusal = r; size = 0; cycle = c })
@@ -183,7 +178,7 @@ module _ (s out : List ℕ) where
           y-none = plan .refusal ∙ none
 
           -- what the writer makes of the form with the retiming found
-          pub fit-written : (z : Written) (last : List ℕ) → z ≡ written (y .form) (length out) → last ≡ bufferAfter (y .form) out
+          fit-written : (z : Written) (last : List ℕ) → z ≡ written (y .form) (length out) → last ≡ bufferAfter (y .form) out
               → RecordFitted s out last (record { refusal = z .refusal; size = z .size; cycle = y .cycle })
           unfolding fitBuffer written bufferAfter
           fit-written z last is-z is-last =
@@ -196,3 +191,6 @@ module _ (s out : List ℕ) where
                 buffer = is-last ∙ rw (plan .form b, writes) (sym (pick-twice (fine (refusalOf f (length out))) (sets out 0 (layout f)) out));
                 handed = handed-none _ _ (z .refusal) (y .cycle) (rw refusal (unproved .0)) (rw refusal (unproved .1)) (plan .handed .none (λ q. omega (arith, ap numberOf (sym y-none ∙ q))) (λ q. omega (arith, ap numberOf (sym y-none ∙ q))));
               }
+
+          pub fit-answered : (a : Fitted) (last : List ℕ) → a ≡ answer (y .form) (y .cycle) (length out) → last ≡ bufferAfter (y .form) out → RecordFitted s out last a
+          fit-answered a last is is-last = subst (RecordFitted s out last) (sym is) (fit-written (written (y .form) (length out)) last refl is-last)

@@ -13,6 +13,7 @@ use Rattle.legal.specs.Loop.{Loop, Pair, loopOf, pairOf}
 use Rattle.legal.specs.Systems.{limits, Impossible}
 use Rattle.legal.specs.Fitted.{fitted}
 use Rattle.fit.specs.declared.Fitting.{Fitting}
+use Rattle.fit.specs.Tables.{Described}
 
 -- of least depth, and node by node the largest of those; unused places are 0
 unfoldable pub retimings : Loop → Pair → List ℕ
@@ -45,3 +46,7 @@ pub record StartsFitted (g : Loop) (p : Pair) (r : Fitting) : Type 0 where
   pub zeros : r .fits ≡ false → r .retiming ≡ replicate 64 0
   pub impossible : r .fits ≡ false → Impossible g p (edgesOf (r .cycle))
   pub filled : Filled (r .cycle)
+
+-- whichever form the tables are of, its starts are fitted
+abbrev pub TablesFitted : ℕ → ℕ → List ℕ → List ℕ → List ℕ → List ℕ → Fitting → Type 0
+TablesFitted n m tails heads gains costs r = (f : Form) → Described f n m tails heads gains costs → StartsFitted (loopOf f) (pairOf f) r

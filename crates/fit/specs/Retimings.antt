@@ -10,6 +10,7 @@ use lib.ListN.{length, getD, length-map, length-append, length-replicate, List·
 use lib.Seq.{getD-append-add}
 use Rattle.lists.specs.Span.{span, span-length}
 use Rattle.lists.specs.Fold.{top, top-over, top-attained}
+use Rattle.lists.specs.Mapped.{mapped-at}
 use Rattle.lists.specs.Place.{zeros-at}
 use Rattle.legal.specs.Loop.{Loop, Pair}
 use Rattle.legal.specs.Legal.{UnitRule, Legal, busy, occupies}
@@ -18,12 +19,6 @@ use Rattle.legal.specs.Shape.{Sound, Bodied}
 use Rattle.legal.specs.Limits.{fit-edges}
 use Rattle.legal.specs.Fitted.{depth, fitted, Settles, fitted-fits, depth-bound, fitted-depth, fitted-zero, fitted-top, fits-depth, fits-under}
 use Rattle.fit.specs.Retimed.{retimings}
-
-mapped-at : (f : ℕ → ℕ) (a n i : ℕ) → i < n → getD (map f (span a n)) i 0 ≡ f (a + i)
-unfolding span
-mapped-at f a zero i l = absurd (not-suc-le-zero l)
-mapped-at f a (suc n) zero l = rw add-zero
-mapped-at f a (suc n) (suc i) l = rw (add-suc, ← suc-add) (mapped-at f (suc a) n i (le-of-suc-le-suc l))
 
 module _ (g : Loop) (p : Pair) where
   front-length : length (map (fitted g p) (span 0 (g .graph .nodes))) ≡ g .graph .nodes

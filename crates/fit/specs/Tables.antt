@@ -6,6 +6,7 @@ use Prim.Native.Nat.{ℕ, _-_, _<_}
 use lib.ListN.{getD, replicate}
 use Rattle.lists.specs.Span.{span}
 use Rattle.form.specs.declared.Form.{Form}
+use Rattle.form.specs.Ranges.{WellFormed}
 use Rattle.legal.specs.Loop.{loopOf, pairOf}
 use Rattle.legal.specs.Systems.{lateness}
 
@@ -17,3 +18,16 @@ pub record Limited (f : Form) (n : ℕ) (gains costs : List ℕ) : Type 0 where
 -- how far each of the first n values is below h; 0 past them
 unfoldable pub turnedOver : ℕ → List ℕ → ℕ → List ℕ
 turnedOver h ys n = map (λ v. h - getD ys v 0) (span 0 n) ++ replicate (64 - n) 0
+
+-- the tables are those of a well-formed form and its limits
+pub record Described (f : Form) (n m : ℕ) (tails heads gains costs : List ℕ) : Type 0 where
+  pub good : WellFormed f
+  pub all-nodes : f .nodes ≡ n
+  pub all-edges : f .edges ≡ m
+  pub all-tails : f .from ≡ tails
+  pub all-heads : f .to ≡ heads
+  pub limited : Limited f (f .edges) gains costs
+
+-- of one at least
+abbrev pub Tabled : ℕ → ℕ → List ℕ → List ℕ → List ℕ → List ℕ → Type 0
+Tabled n m tails heads gains costs = (f : Form) × Described f n m tails heads gains costs

@@ -3,14 +3,15 @@ ghost use mathlib.Core.Logic.{_≢_};
 ghost use mathlib.Core.Path.{_≡_};
 ghost use Prim.Native.Nat.{ℕ, _+_, _≤_, _<_};
 ghost use lib.Dec.{leb};
-ghost use lib.ListN.{getD, take};
+ghost use lib.ListN.{length, getD, take};
 ghost use Rattle.lists.specs.Pick.{pick};
 ghost use Rattle.lists.specs.Fold.{top};
 ghost use Rattle.form.specs.Ranges.{WellFormed};
 ghost use Rattle.legal.specs.Loop.{loopOf, pairOf};
-ghost use Rattle.fit.specs.Tables.{Limited, turnedOver};
-ghost use Rattle.fit.specs.Retimed.{withRetiming, StartsFitted};
-ghost use Rattle.fit.specs.Planned.{Planned};
+ghost use Rattle.writer.specs.Writing.{bufferAfter};
+ghost use Rattle.fit.specs.Tables.{Limited, turnedOver, Tabled};
+ghost use Rattle.fit.specs.Retimed.{withRetiming, StartsFitted, TablesFitted};
+ghost use Rattle.fit.specs.Planned.{fittedAnswer};
 ghost use Rattle.fit.specs.Fitting.{RecordFitted};
 use answer::Cycle;
 use answer::Refusal;
@@ -34,13 +35,6 @@ pub struct Fitted {
 struct Limits {
     gains: [u16; 256],
     costs: [u16; 256],
-}
-
-// A form with its starts fitted, or what is refused of it with its cycle.
-struct Plan {
-    refusal: Refusal,
-    cycle: Cycle,
-    form: Form,
 }
 
 // A byte as a u16; the bound spares each use a proof.
@@ -111,22 +105,18 @@ fn turned(values: &[u32; 64], nodes: u8, highest: u32) -> [u8; 64]
     retiming
 }
 
-// The retiming of least depth that fits the starts, node by node the largest; or a cycle that no retiming can pass.
-pub fn fit_starts(form: Form) -> Fitting
-    requires { ⌜ WellFormed form ⌝ }
-    requires { ⌜ form .length ≢ 0 ⌝ }
-    ensures { λ r. ⌜ StartsFitted (loopOf form) (pairOf form) r ⌝ }
+// The retiming of least depth within the limits, node by node the largest; or a cycle that no retiming can pass.
+fn fit_limits<'a>(
+    nodes: u8,
+    edges: u16,
+    from: &'a [u8; 256],
+    to: &'a [u8; 256],
+    limits: Limits,
+) -> Fitting
+    requires { ⌜ Tabled nodes edges (now from) (now to) (limits .gains) (limits .costs) ⌝ }
+    ensures { λ r. ⌜ TablesFitted nodes edges (now (from .entry)) (now (to .entry)) (limits .gains) (limits .costs) r ⌝ }
 {
-    let nodes = form.nodes;
-    let limits = limits_of(form);
-    let solution = solve::solve(
-        nodes,
-        form.edges,
-        &form.from,
-        &form.to,
-        &limits.gains,
-        &limits.costs,
-    );
+    let solution = solve::solve(nodes, edges, from, to, &limits.gains, &limits.costs);
     let cycle = solution.cycle;
     if !solution.settled {
         return Fitting {
@@ -143,81 +133,77 @@ pub fn fit_starts(form: Form) -> Fitting
     }
 }
 
-// The form with another retiming.
-fn with_retiming(mut form: Form, retiming: [u8; 64]) -> Form
-    ensures { λ r. ⌜ r ≡ withRetiming form retiming ⌝ }
-{
-    form.retiming = retiming;
-    form
-}
-
-// What is refused of a form in turn, else the form with the retiming that fits. The unit rule asks the starts alone.
-fn plan_of(form: Form) -> Plan
+// The retiming that fits the form's starts.
+pub fn fit_starts(form: Form) -> Fitting
     requires { ⌜ WellFormed form ⌝ }
-    ensures { λ r. ⌜ Planned form r ⌝ }
+    requires { ⌜ form .length ≢ 0 ⌝ }
+    ensures { λ r. ⌜ StartsFitted (loopOf form) (pairOf form) r ⌝ }
 {
-    if form.length == 0 {
-        return Plan {
-            refusal: Refusal::Bare,
-            cycle: Cycle::none(),
-            form,
-        };
-    }
-    let knot = knots::knot_of(form.nodes, form.edges, &form.from, &form.to, &form.delays);
-    if 0 < knot.count {
-        return Plan {
-            refusal: Refusal::Knot,
-            cycle: knot,
-            form,
-        };
-    }
-    let fitting = fit_starts(form);
-    let cycle = fitting.cycle;
-    if !fitting.fits {
-        return Plan {
-            refusal: Refusal::NoRetiming,
-            cycle,
-            form,
-        };
-    }
+    let limits = limits_of(form);
+    fit_limits(form.nodes, form.edges, &form.from, &form.to, limits)
+}
+
+// The form's record with the retiming that fits, into `out`.
+fn write_fitted(mut form: Form, fitting: Fitting, out: &mut [u8]) -> Fitted
+    ensures { λ r. ⌜ r ≡ fittedAnswer form fitting (length (now (out .entry))) ⌝ }
+    ensures { λ _. ⌜ now (out .exit) ≡ bufferAfter (withRetiming form (fitting .retiming)) (now (out .entry)) ⌝ }
+{
     let retiming = fitting.retiming;
-    Plan {
-        refusal: rules::crowded(form),
+    form.retiming = retiming;
+    let written = writer::write(form, out);
+    let refusal = written.refusal;
+    let cycle = fitting.cycle;
+    Fitted {
+        refusal,
+        size: written.size,
         cycle,
-        form: with_retiming(form, retiming),
     }
 }
 
-// The record with a retiming that fits its starts, into `out`; a refusal leaves `out` as it was.
+// A refusal, and the cycle that proves it.
+fn unfitted(refusal: Refusal, cycle: Cycle) -> Fitted
+    ensures { λ r. ⌜ r ≡ record { refusal = refusal; size = 0; cycle = cycle } ⌝ }
+{
+    Fitted {
+        refusal,
+        size: 0,
+        cycle,
+    }
+}
+
+// The record with a retiming that fits its starts, into `out`; a refusal leaves `out` as it was. The unit rule asks the starts alone.
 pub fn fit(record: &[u8], out: &mut [u8]) -> Fitted
     ensures { λ r. ⌜ RecordFitted (now («record» .entry)) (now (out .entry)) (now (out .exit)) r ⌝ }
 {
     let read = reader::read(record);
     let unread = read.refusal;
     if !unread.is_fine() {
-        return Fitted {
-            refusal: unread,
-            size: 0,
-            cycle: Cycle::none(),
-        };
+        return unfitted(unread, Cycle::none());
     }
-    let form = read.form;
-    let plan = plan_of(form);
-    let refusal = plan.refusal;
-    let cycle = plan.cycle;
-    if !refusal.is_fine() {
-        return Fitted {
-            refusal,
-            size: 0,
-            cycle,
-        };
+    if read.form.length == 0 {
+        return unfitted(Refusal::Bare, Cycle::none());
     }
-    let fitted = plan.form;
-    let written = writer::write(fitted, out);
-    let refused = written.refusal;
-    Fitted {
-        refusal: refused,
-        size: written.size,
-        cycle,
+    let nodes = read.form.nodes;
+    let edges = read.form.edges;
+    let knot = knots::knot_of(
+        nodes,
+        edges,
+        &read.form.from,
+        &read.form.to,
+        &read.form.delays,
+    );
+    if 0 < knot.count {
+        return unfitted(Refusal::Knot, knot);
     }
+    let limits = limits_of(read.form);
+    let fitting = fit_limits(nodes, edges, &read.form.from, &read.form.to, limits);
+    let cycle = fitting.cycle;
+    if !fitting.fits {
+        return unfitted(Refusal::NoRetiming, cycle);
+    }
+    let crowded = rules::crowded(read.form);
+    if !crowded.is_fine() {
+        return unfitted(crowded, cycle);
+    }
+    write_fitted(read.form, fitting, out)
 }

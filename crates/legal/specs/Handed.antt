@@ -1,7 +1,9 @@
 -- The cycle that is handed over beside a refusal: a knot with Knot, a cycle with negative limit sum with NoRetiming, else none.
 -- Assumes nothing.
-use mathlib.Core.Path.{_≡_}
+use mathlib.Core.Path.{_≡_, ap}
 use mathlib.Core.Logic.{_≢_}
+use Rattle.lists.specs.Place.{zeros-at}
+use Rattle.answer.specs.Refused.{numberOf}
 use Rattle.answer.specs.Outcome.{noCycle, edgesOf, Filled}
 use Rattle.answer.specs.declared.Cycle.{Cycle}
 use Rattle.answer.specs.declared.Refusal.{Refusal}
@@ -15,3 +17,12 @@ pub record Handed (g : Loop) (p : Pair) (r : Refusal) (c : Cycle) : Type 0 where
   pub impossible : r ≡ refusal.NoRetiming → Impossible g p (edgesOf c)
   pub none : r ≢ refusal.Knot → r ≢ refusal.NoRetiming → c ≡ noCycle
   pub filled : Filled c
+
+-- beside a refusal that no cycle proves none is handed over
+pub handed-none : (g : Loop) (p : Pair) (r : Refusal) (c : Cycle) → numberOf r ≢ 12 → numberOf r ≢ 14 → c ≡ noCycle → Handed g p r c
+handed-none g p r c unknotted fitting e = record {
+  knot = λ k. absurd (unknotted (ap numberOf k));
+  impossible = λ k. absurd (fitting (ap numberOf k));
+  none = λ k n. e;
+  filled = λ i h. rw e (zeros-at 64 i);
+}

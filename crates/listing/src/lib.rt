@@ -29,7 +29,7 @@ struct View {
 }
 
 // One byte, and the place past it.
-fn put_byte(out: &mut [u8], at: usize, byte: u8) -> usize
+pub fn put_byte(out: &mut [u8], at: usize, byte: u8) -> usize
     requires { ⌜ at ≤ 1000000 ⌝ }
     ensures { λ r. ⌜ (r ≡ at + 1) × Laid (now (out .entry)) at (byte ∷ []) (now (out .exit)) r ⌝ }
 {
@@ -41,7 +41,7 @@ fn put_byte(out: &mut [u8], at: usize, byte: u8) -> usize
 }
 
 // A word, and the place past it.
-fn put_word(out: &mut [u8], at: usize, word: &[u8]) -> usize
+pub fn put_word(out: &mut [u8], at: usize, word: &[u8]) -> usize
     requires { ⌜ at + length (now word) ≤ 1000000 ⌝ }
     ensures { λ r. ⌜ Laid (now (out .entry)) at (now (word .entry)) (now (out .exit)) r ⌝ }
 {

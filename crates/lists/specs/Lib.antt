@@ -11,5 +11,4 @@ pub mod Sums
 pub mod Quotient
 pub mod Inject
 pub mod Last
-pub mod Tests
 pub mod Mapped

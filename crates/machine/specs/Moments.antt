@@ -7,7 +7,7 @@ use Prim.Native.Nat.{ℕ, suc, _+_, _-_, _*_, _/_, _%_, _≤_, _<_}
 use native.Mathlib.Omega.{arith}
 use native.Mathlib.Nat.{zero-add, div-add-mod'}
 use borrow.Author.Tests.{eqb-true, leb-true, ltb-true, eq-eqb, le-leb, lt-ltb}
-use Rattle.lists.specs.Tests.{both}
+use Rattle.lists.specs.Both.{and-both}
 use Rattle.lists.specs.Span.{span}
 use Rattle.lists.specs.Mapped.{mapped-at}
 use Rattle.lists.specs.Fold.{top-over}
@@ -50,8 +50,8 @@ module _ (g : Loop) (p : Pair) (s : Sound g) (b : Placed g p) (starts : List ℕ
   pub issues-step : (t v : ℕ) → 1 ≤ t → v < g .graph .nodes → issues g p starts k t v ≡ true → IssuedAt t v (iteration g p starts k t v)
   unfolding issues issueStep repOf
   issues-step t v one l q =
-      let a = both _ _ q in
-      let c = both _ _ (a .1) in
+      let a = and-both _ _ q in
+      let c = and-both _ _ (a .1) in
       let x : p .start v ≡ (t - 1) % p .length + 1 = eqb-true _ _ (a .0) in
       let low : depth g p ≤ (t - 1) / p .length + p .retiming v = leb-true _ _ (c .0) in
       let high : (t - 1) / p .length + p .retiming v < depth g p + k = ltb-true _ _ (c .1) in

@@ -11,7 +11,7 @@ use native.Mathlib.Nat.{add-sub-cancel}
 use borrow.Author.Tests.{eqb-true, eqb-false, ltb-false, eq-eqb, ne-eqb, lt-ltb, le-ltb}
 use lib.Dec.{eqb, ltb}
 use lib.ListN.{length, getD}
-use Rattle.lists.specs.Tests.{neither}
+use Rattle.lists.specs.Both.{or-fails}
 use Rattle.lists.specs.Span.{span}
 use Rattle.lists.specs.Fold.{count}
 use Rattle.lists.specs.First.{first-is, first-past}
@@ -97,7 +97,7 @@ module _ (g : Loop) (p : Pair) (s : Sound g) (starts : List ℕ) (k : ℕ) (m₀
       × (getD (m .finish) (placeOf g starts (i - g .delay e) (g .graph .tail e)) 0 ≤ t)
   unfolding late
   finish-late t v e i is q d h =
-      let x = neither _ _ (rw (is, eq-eqb _ _ q, le-ltb _ _ d) at h) in
+      let x = or-fails _ _ (rw (is, eq-eqb _ _ q, le-ltb _ _ d) at h) in
       (eqb-false _ _ (x .0), ltb-false _ _ (x .1))
 
   -- and it is not where it did

@@ -9,7 +9,7 @@ use native.Mathlib.Decide.{decLt}
 use native.Mathlib.Nat.{add-mul, mul-comm}
 use borrow.Author.Tests.{eqb-true, leb-true, ltb-true, eq-eqb, le-leb, lt-ltb}
 use lib.Dec.{eqb}
-use Rattle.lists.specs.Tests.{both}
+use Rattle.lists.specs.Both.{and-both}
 use Rattle.lists.specs.Pick.{pick-ind}
 use Rattle.lists.specs.Quotient.{rows-below}
 use Rattle.form.specs.declared.Class.{Class}
@@ -44,8 +44,8 @@ module _ (g : Loop) (p : Pair) where
   pub occupies-tells : (c q v : ℕ) → occupies g p c q v ≡ true → Occupant g p c q v
   unfolding occupies
   occupies-tells c q v e =
-      let a = both _ _ e in
-      let b = both _ _ (a .1) in
+      let a = and-both _ _ e in
+      let b = and-both _ _ (a .1) in
       record { class = eqb-true _ _ (a .0); from = leb-true _ _ (b .0); to = ltb-true _ _ (b .1) }
 
   pub occupant-occupies : (c q v : ℕ) → Occupant g p c q v → occupies g p c q v ≡ true
@@ -56,8 +56,8 @@ module _ (g : Loop) (p : Pair) where
     pub holding-tells : (n c t at : ℕ) → holding g p starts k n c t at ≡ true → Holder g p n c t (at / g .graph .nodes) (at % g .graph .nodes)
     unfolding holding
     holding-tells n c t at e =
-        let a = both _ _ e in
-        let b = both _ _ (a .1) in
+        let a = and-both _ _ e in
+        let b = and-both _ _ (a .1) in
         record { earlier = ltb-true _ _ (a .0); class = eqb-true _ _ (b .0); to = ltb-true _ _ (b .1) }
 
     pub holder-holding : (n c t at : ℕ) → Holder g p n c t (at / g .graph .nodes) (at % g .graph .nodes) → holding g p starts k n c t at ≡ true

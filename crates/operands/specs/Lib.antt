@@ -1,4 +1,4 @@
-pub mod Links
+pub mod Into
 pub mod Combined
 pub mod Tables
 pub mod Given

@@ -6,9 +6,9 @@ use Prim.Native.Nat.{ℕ, _+_, _-_, _*_, _≤_, _<_}
 use lib.Dec.{ltb}
 use lib.ListN.{length, getD}
 use Rattle.lists.specs.Pick.{pick}
+use Rattle.links.specs.Chains.{firstWith}
 use Rattle.form.specs.declared.Operation.{Operation}
 use Rattle.legal.specs.Loop.{Loop}
-use Rattle.operands.specs.Links.{firstInto}
 
 -- the start table, and the values as far as iteration i
 pub record HasRoom (nodes i : ℕ) (starts values : List ℕ) : Type 0 where
@@ -39,6 +39,6 @@ pub record Tells (g : Loop) (nodes edges : ℕ) (tails delays : List ℕ) : Type
 -- the operation is node v's, and the links begin with the first edge into it
 pub record Follows (g : Loop) (v : ℕ) (operation : Operation) (first : ℕ) (next : List ℕ) : Type 0 where
   pub is-operation : g .node v .operation ≡ operation
-  pub is-first : first ≡ firstInto (g .graph .head) v (g .graph .edges) 0
+  pub is-first : first ≡ firstWith (g .graph .head) v (g .graph .edges) 0
   pub is-next : (e : ℕ) → e < g .graph .edges
-      → getD next e 0 ≡ firstInto (g .graph .head) (g .graph .head e) (g .graph .edges - (e + 1)) (e + 1)
+      → getD next e 0 ≡ firstWith (g .graph .head) (g .graph .head e) (g .graph .edges - (e + 1)) (e + 1)

@@ -1,51 +1,12 @@
-// What the machine and the plain loop share: the edges into each node, and what a node computes of its operands.
+// What the machine and the plain loop share: what a node computes of its operands, which the links into it name.
 ghost use mathlib.Core.Path.{_≡_};
 ghost use Prim.Native.Nat.{ℕ, _≤_, _<_};
-ghost use lib.ListN.{length, getD};
 ghost use Rattle.legal.specs.Loop.{Loop};
 ghost use Rattle.machine.specs.Values.{plus as plusOf, minus as minusOf, times as timesOf, computed};
-ghost use Rattle.operands.specs.Links.{Links};
 ghost use Rattle.operands.specs.Tables.{HasRoom, handed, Fits, Tells, Follows};
 ghost use Rattle.operands.specs.Combined.{opening, subtracted as subtractedOf, combined as combinedOf, closing};
 use form::Operation;
 use machine::Iteration;
-
-// The edges into each node, in edge order: the first into a node, and after an edge the next with the same head.
-// The number of edges stands where there is no such edge.
-pub struct Incoming {
-    pub first: [u16; 64],
-    pub next: [u16; 256],
-}
-
-// As long as no edge is linked, its number stands at each place.
-fn first_blank(edges: u16) -> [u16; 64]
-    ensures { λ r. ⌜ (length r ≡ 64) × ((v : ℕ) → v < 64 → getD r v 0 ≡ edges) ⌝ }
-{
-    [edges; 64]
-}
-
-fn next_blank(edges: u16) -> [u16; 256]
-    ensures { λ r. ⌜ length r ≡ 256 ⌝ }
-{
-    [edges; 256]
-}
-
-// Links over the edges whose heads are `to`, from the last edge down, so that each finds the one after it.
-pub fn incoming_of(to: &[u8; 256], edges: u16) -> Incoming
-    requires { ⌜ (edges ≤ 256) × ((e : ℕ) → e < edges → getD (now to) e 0 < 64) ⌝ }
-    ensures { λ r. ⌜ Links (λ e. getD (now (to .entry)) e 0) edges (r .first) (r .next) ⌝ }
-{
-    let mut first = first_blank(edges);
-    let mut next = next_blank(edges);
-    let mut e = edges as usize;
-    while 0 < e {
-        e -= 1;
-        let head = to[e] as usize;
-        next[e] = first[head];
-        first[head] = e as u16;
-    }
-    Incoming { first, next }
-}
 
 // Sum, difference and product, modulo 2^32.
 fn plus(a: u32, b: u32) -> u32

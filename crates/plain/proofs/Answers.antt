@@ -23,24 +23,15 @@ use Rattle.reader.specs.Reading.{readForm}
 use Rattle.legal.specs.Loop.{Loop, Pair, graphOf, loopOf, pairOf}
 use Rattle.legal.specs.Shape.{sound-form}
 use Rattle.legal.specs.Systems.{knotted}
-use Rattle.legal.specs.Handed.{Handed}
-use Rattle.knots.specs.declared.Ranking.{Ranking}
-use Rattle.knots.specs.Found.{KnotFound, RanksFound}
+use Rattle.legal.specs.Handed.{Handed, handed-none}
+use Rattle.machine.specs.Unique.{Ranks}
+use Rattle.knots.specs.Found.{KnotFound}
 use Rattle.judge.specs.Early.{read-early}
 use Rattle.plain.specs.declared.Looped.{Looped}
 use Rattle.plain.specs.Answer.{roomOf, plainOf, plainRecord, FormLooped, RecordLooped}
 use Rattle.plain.specs.Ascending.{ascending, ascending-sorts}
 use Rattle.plain.specs.Looping.{looped}
 use Rattle.plain.specs.Settled.{looped-plain, looped-kept}
-
--- no cycle stands beside a refusal that none proves
-handed-none : (g : Loop) (p : Pair) (r : Refusal) (c : Cycle) → numberOf r ≢ 12 → numberOf r ≢ 14 → c ≡ noCycle → Handed g p r c
-handed-none g p r c unknotted fitting e = record {
-  knot = λ k. absurd (unknotted (ap numberOf k));
-  impossible = λ k. absurd (fitting (ap numberOf k));
-  none = λ k n. e;
-  filled = λ i h. rw e (zeros-at 64 i);
-}
 
 -- ---- room
 
@@ -103,7 +94,7 @@ module _ (f : Form) (k : ℕ) (starts before : List ℕ) where
       untouched = λ z. refl;
     }
 
-    pub looped-done : WellFormed f → (rank : List ℕ) → ((e : ℕ) → e < loopOf f .graph .edges → loopOf f .delay e ≡ 0 → getD rank (loopOf f .graph .tail e) 0 < getD rank (loopOf f .graph .head e) 0)
+    pub looped-done : WellFormed f → (rank : List ℕ) → Ranks (loopOf f) (λ v. getD rank v 0)
         → fine q ≡ true → r .refusal ≡ None
         → (order : List ℕ) → take (f .nodes) order ≡ ascending rank (f .nodes)
         → (after : List ℕ) → after ≡ looped (loopOf f) starts (take (f .nodes) order) k before → FormLooped f k starts before after r

@@ -2,10 +2,9 @@
 -- Assumes nothing.
 use mathlib.Core.Path.{_≡_, refl, sym, _∙_, ap}
 use mathlib.Core.List.{List, [], _∷_}
-use Prim.Native.Nat.{ℕ, _+_, _*_, _≤_, _<_}
-use native.Mathlib.Omega.{arith}
+use Prim.Native.Nat.{ℕ, _+_, _<_}
 use native.Mathlib.Numerals.{add-one}
-use native.Mathlib.Nat.{zero-add, mul-le-mul-right}
+use native.Mathlib.Nat.{zero-add}
 use lib.ListN.{length, getD, set, take, length-set}
 use lib.Seq.{take-suc}
 use Rattle.lists.specs.Span.{span}
@@ -14,10 +13,6 @@ use Rattle.legal.specs.Loop.{Loop}
 use Rattle.machine.specs.Values.{placeOf, computed}
 use Rattle.plain.specs.Looping.{stored, iterated, looped}
 use Rattle.plain.specs.Settled.{fold-last}
-
--- a place of a row is a small number
-pub place-small : (i nodes v : ℕ) → i < 4294967296 → nodes < 256 → v < 256 → i * nodes + v < 2199023255552
-place-small i nodes v a b c = omega (arith, mul-le-mul-right {m = i} {n = 4294967295} nodes (omega arith))
 
 module _ (g : Loop) (starts order : List ℕ) where
   -- the first k nodes of iteration i are stored

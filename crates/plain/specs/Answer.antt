@@ -31,18 +31,18 @@ unfoldable pub plainRecord : List ℕ → ℕ → ℕ → ℕ → Refusal
 plainRecord s k starts values = pick (fine (readForm s .refusal)) (plainOf (loopOf (readForm s .form)) k starts values) (readForm s .refusal)
 
 -- the values of k iterations stand in the buffer, and its places past them are as they were
-pub record Filled (g : Loop) (k : ℕ) (starts before after : List ℕ) : Type 0 where
+pub record Ran (g : Loop) (k : ℕ) (starts before after : List ℕ) : Type 0 where
   pub plain : PlainLoop g starts k after
   pub kept : Kept (k * g .graph .nodes) before after
 
 pub record FormLooped (f : Form) (k : ℕ) (starts before after : List ℕ) (r : Looped) : Type 0 where
   pub refusal : r .refusal ≡ plainOf (loopOf f) k (length starts) (length before)
   pub handed : Handed (loopOf f) (pairOf f) (r .refusal) (r .cycle)
-  pub done : fine (r .refusal) ≡ true → Filled (loopOf f) k starts before after
+  pub done : fine (r .refusal) ≡ true → Ran (loopOf f) k starts before after
   pub untouched : fine (r .refusal) ≡ false → after ≡ before
 
 pub record RecordLooped (s : List ℕ) (k : ℕ) (starts before after : List ℕ) (r : Looped) : Type 0 where
   pub refusal : r .refusal ≡ plainRecord s k (length starts) (length before)
   pub handed : Handed (loopOf (readForm s .form)) (pairOf (readForm s .form)) (r .refusal) (r .cycle)
-  pub done : fine (r .refusal) ≡ true → Filled (loopOf (readForm s .form)) k starts before after
+  pub done : fine (r .refusal) ≡ true → Ran (loopOf (readForm s .form)) k starts before after
   pub untouched : fine (r .refusal) ≡ false → after ≡ before

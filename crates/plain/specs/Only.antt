@@ -21,7 +21,7 @@ use Rattle.legal.specs.Systems.{knotted}
 use Rattle.legal.specs.Knots.{Free, unknotted-free}
 use Rattle.machine.specs.Unique.{unique}
 use Rattle.plain.specs.declared.Looped.{Looped}
-use Rattle.plain.specs.Answer.{plainOf, plainRecord, Filled, RecordLooped}
+use Rattle.plain.specs.Answer.{plainOf, plainRecord, Ran, RecordLooped}
 
 -- where nothing is refused the loop has no knot
 plain-free : (g : Loop) (k starts values : ℕ) → fine (plainOf g k starts values) ≡ true → knotted g ≡ false
@@ -37,9 +37,9 @@ record-fine s k starts values =
     pick-ind (λ (r : Refusal). fine r ≡ true → (fine (readForm s .refusal) ≡ true) × (fine (plainOf (loopOf (readForm s .form)) k starts values) ≡ true))
     (fine (readForm s .refusal)) _ _ (λ e f. (e, f)) (λ e f. both-ways f e)
 
--- two buffers filled alike are the same
-filled-once : (g : Loop) → Sound g → Free g → (k : ℕ) (starts before xs ys : List ℕ) → Filled g k starts before xs → Filled g k starts before ys → xs ≡ ys
-filled-once g sound free k starts before xs ys a b = ext-getD 0 xs ys (a .kept .long ∙ sym (b .kept .long)) at
+-- two buffers after the same loop are the same
+ran-once : (g : Loop) → Sound g → Free g → (k : ℕ) (starts before xs ys : List ℕ) → Ran g k starts before xs → Ran g k starts before ys → xs ≡ ys
+ran-once g sound free k starts before xs ys a b = ext-getD 0 xs ys (a .kept .long ∙ sym (b .kept .long)) at
   where
     at : (x : ℕ) → x < length xs → getD xs x 0 ≡ getD ys x 0
     at x l =
@@ -61,5 +61,5 @@ settled s bytes k starts before xs ys r q a b = (same, go (fine (r .refusal)) re
     go true f =
         let good = record-fine s k (length starts) (length before) (sym (ap fine (a .refusal)) ∙ f) in
         let sound = sound-form (readForm s .form) (read-well-formed s bytes (good .0)) in
-        filled-once (loopOf (readForm s .form)) sound (unknotted-free (loopOf (readForm s .form)) (plain-free (loopOf (readForm s .form)) k (length starts) (length before) (good .1))) k starts before xs ys (a .done f) (b .done (sym (ap fine same) ∙ f))
+        ran-once (loopOf (readForm s .form)) sound (unknotted-free (loopOf (readForm s .form)) (plain-free (loopOf (readForm s .form)) k (length starts) (length before) (good .1))) k starts before xs ys (a .done f) (b .done (sym (ap fine same) ∙ f))
     go false f = a .untouched f ∙ sym (b .untouched (sym (ap fine same) ∙ f))

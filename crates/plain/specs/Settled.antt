@@ -11,7 +11,7 @@ use lib.ListN.{length, getD, set, take, length-set}
 use lib.Seq.{take-suc, take-length, getD-set-same, getD-set-other}
 use Rattle.lists.specs.Span.{span}
 use Rattle.lists.specs.Fold.{fold, fold-snoc}
-use Rattle.lists.specs.Quotient.{rows-below, rows-apart}
+use Rattle.lists.specs.Quotient.{rows-apart}
 use Rattle.legal.specs.Loop.{Loop}
 use Rattle.legal.specs.Shape.{Sound}
 use Rattle.machine.specs.Values.{placeOf, computed}

@@ -111,7 +111,7 @@ fn iterate_all(form: Form, order: [u8; 64], iterations: u16, starts: &[u32], val
     requires { ⌜ (15 * form .nodes ≤ length (now starts)) × (iterations * form .nodes ≤ length (now values)) ⌝ }
     ensures { λ _. ⌜ now (values .exit) ≡ looped (loopOf form) (now (starts .entry)) (take (form .nodes) order) iterations (now (values .entry)) ⌝ }
 {
-    let links = operands::incoming_of(&form.to, form.edges);
+    let links = links::links_of(&form.to, form.edges);
     for i in 0..iterations {
         let iteration = Iteration(i as u32);
         iterate(
@@ -162,9 +162,9 @@ pub fn plain_form(form: Form, iterations: u16, starts: &[u32], values: &mut [u32
             cycle,
         };
     }
-    let refusal = room_of(form.nodes, iterations, starts.len(), values.len());
-    if !refusal.is_fine() {
-        return alone(refusal);
+    let room = room_of(form.nodes, iterations, starts.len(), values.len());
+    if !room.is_fine() {
+        return alone(room);
     }
     let order = order_of(form.nodes, &ranking.rank);
     iterate_all(form, order, iterations, starts, values);

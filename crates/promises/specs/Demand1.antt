@@ -33,6 +33,12 @@ use Rattle.fit.specs.Fitting.{fitRecord, fitBuffer, RecordFitted}
 use Rattle.writer.specs.Layout.{layout}
 use Rattle.rotation.specs.declared.Scheduled.{Scheduled}
 use Rattle.rotation.specs.Scheduling.{RecordScheduled}
+use Rattle.field.specs.Number.{Bytes}
+use Rattle.run.specs.declared.Ran.{Ran}
+use Rattle.run.specs.Running.{asked, stepsOf, RecordRun}
+use Rattle.plain.specs.declared.Looped.{Looped}
+use Rattle.plain.specs.Answer.{RecordLooped}
+use Rattle.plain.specs.Only as loops
 use Rattle.floor.specs.declared.Floored.{Floored}
 use Rattle.floor.specs.declared.Part.the-variants as part
 use Rattle.floor.specs.Floor.{RecordFloored}
@@ -146,6 +152,31 @@ module _ (asked : Form → Refusal) (planned : Form → Form) (turned : Form →
   -- a refusal leaves the buffer as it was
   pub schedule-refused : (after : List ℕ) (a : Scheduled) → RecordScheduled asked planned turned s out after a → fine (a .refusal) ≡ false → after ≡ out
   schedule-refused after a p e = p .buffer ∙ pick-false (fine (a .refusal)) _ out e
+
+-- a run: refusal, steps and both buffers
+pub run-settled : (s : List ℕ) (k : ℕ) (starts values finish values₁ finish₁ values₂ finish₂ : List ℕ) (a b : Ran)
+    → RecordRun s k starts values finish values₁ finish₁ a → RecordRun s k starts values finish values₂ finish₂ b
+    → (a .refusal ≡ b .refusal) × (a .steps ≡ b .steps) × (values₁ ≡ values₂) × (finish₁ ≡ finish₂)
+run-settled s k starts values finish values₁ finish₁ values₂ finish₂ a b p q =
+    let same : a .refusal ≡ b .refusal = settled (a .refusal) (b .refusal) (p .refusal) (q .refusal) in (
+      same,
+      settled (a .steps) (b .steps) (p .steps) (q .steps ∙ ap (λ r. pick (fine r) (stepsOf (readForm s .form) k starts) 0) (sym same)),
+      settled values₁ values₂ (p .values-are) (q .values-are),
+      settled finish₁ finish₂ (p .finish-is) (q .finish-is),
+    )
+
+-- what is refused before a run begins leaves both buffers as they were
+pub run-refused : (s : List ℕ) (k : ℕ) (starts values finish after after′ : List ℕ) (a : Ran)
+    → RecordRun s k starts values finish after after′ a → fine (asked s k starts values finish) ≡ false → (after ≡ values) × (after′ ≡ finish)
+run-refused s k starts values finish after after′ a p e = (p .values-are ∙ pick-false _ _ _ e, p .finish-is ∙ pick-false _ _ _ e)
+
+-- the plain loop: refusal and values, since its equations have one table
+pub plain-settled : (s : List ℕ) → Bytes s → (k : ℕ) (starts before after again : List ℕ) (a b : Looped)
+    → RecordLooped s k starts before after a → RecordLooped s k starts before again b → (a .refusal ≡ b .refusal) × (after ≡ again)
+plain-settled = loops.settled
+
+pub plain-refused : (s : List ℕ) (k : ℕ) (starts before after : List ℕ) (a : Looped) → RecordLooped s k starts before after a → fine (a .refusal) ≡ false → after ≡ before
+plain-refused s k starts before after a p e = p .untouched e
 
 -- the floor: refusal, floor and part are settled, and so is the cycle where none is handed over
 pub floor-settled : (s : List ℕ) (a b : Floored) → RecordFloored s a → RecordFloored s b

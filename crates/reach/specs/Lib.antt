@@ -1,3 +1,4 @@
 pub mod Weight
 pub mod Tables
 pub mod Reached
+pub mod Marking

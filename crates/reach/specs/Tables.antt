@@ -1,60 +1,44 @@
--- Tables that tell a loop's edges and which of them are tight, what a sweep over them makes of the marks, and the weights as a table.
+-- Tables that tell a loop's edges and which of them are tight, marks that are counted, and the weights as a table.
 -- Assumes nothing.
 use mathlib.Core.Path.{_≡_, _∙_, ap}
-use mathlib.Core.Bool.{Bool, false, _&&_, not}
 use mathlib.Core.List.{List, _++_, map}
 use Prim.Native.Nat.{ℕ, zero, suc, _+_, _-_, _≤_, _<_}
 use native.Mathlib.Omega.{arith}
 use native.Mathlib.Nat.{zero-add, add-zero, add-suc, suc-add, not-suc-le-zero, le-of-suc-le-suc}
 use lib.Dec.{eqb}
 use lib.ListN.{length, getD, replicate, length-append, length-map, length-replicate, List·getD-append}
+use Rattle.lists.specs.Mapped.{mapped-at}
 use Rattle.lists.specs.Span.{span, span-length}
 use Rattle.lists.specs.Fold.{count}
+use Rattle.links.specs.Chains.{Chains}
+use Rattle.system.specs.Graph.{Joined}
 use Rattle.legal.specs.Loop.{Loop}
-use Rattle.reach.specs.Weight.{tight, sweep, reach, weight}
-use Rattle.reach.specs.Reached.{Marked}
-
--- an edge from u to v marks a new node: it is tight, u is marked, and v is not
-unfoldable pub marksNew : ℕ → ℕ → ℕ → Bool
-marksNew t u v = eqb t 1 && (eqb u 1 && not (eqb v 1))
+use Rattle.reach.specs.Weight.{tight, weight}
 
 -- how many of the first n nodes are marked
 unfoldable pub marked : List ℕ → ℕ → ℕ
 marked m n = count (λ u. eqb (getD m u 0) 1) (span 0 n)
 
--- the edges have places in the tables, and their nodes in the marks
-pub record Inside (edges : ℕ) (tails heads : List ℕ) : Type 0 where
+-- the edges have places in the tables and their heads in the marks, and the links lead on among them
+pub record Fits (edges : ℕ) (first next heads : List ℕ) : Type 0 where
   pub few : edges ≤ 256
-  pub tail-in : (e : ℕ) → e < edges → getD tails e 0 < 64
+  pub begins : (v : ℕ) → v < 64 → getD first v 0 ≤ edges
+  pub leads-on : (e : ℕ) → e < edges → e < getD next e 0
+  pub leads-in : (e : ℕ) → e < edges → getD next e 0 ≤ edges
   pub head-in : (e : ℕ) → e < edges → getD heads e 0 < 64
 
--- the tables hold the loop's edges, and 1 for those that the retiming makes tight
-pub record Tells (g : Loop) (r : ℕ → ℕ) (edges : ℕ) (tails heads tights : List ℕ) : Type 0 where
+-- the tables hold the loop's edges, linked by their tails, and 1 for those that the retiming makes tight
+pub record Tells (g : Loop) (r : ℕ → ℕ) (edges : ℕ) (first next heads tights : List ℕ) : Type 0 where
+  pub joined : Joined (g .graph)
+  pub few-nodes : g .graph .nodes ≤ 64
   pub all : g .graph .edges ≡ edges
-  pub is-tail : (e : ℕ) → e < edges → g .graph .tail e ≡ getD tails e 0
+  pub out : Chains (g .graph .tail) edges first next
   pub is-head : (e : ℕ) → e < edges → g .graph .head e ≡ getD heads e 0
   pub is-tight : (e : ℕ) → e < edges → tight g r e ≡ eqb (getD tights e 0) 1
-
--- marks m₀ after a sweep, with the answer whether one is new
-pub record Swept (edges : ℕ) (tails heads tights m₀ m : List ℕ) (new : Bool) : Type 0 where
-  pub is-sweep : (g : Loop) (r : ℕ → ℕ) → Tells g r edges tails heads tights → m ≡ sweep g r m₀
-  pub calm : new ≡ false → m ≡ m₀
-  pub keeps : (v : ℕ) → Marked m₀ v → Marked m v
-
--- marks m₀ after `left` sweeps
-pub record Reaches (edges : ℕ) (tails heads tights : List ℕ) (left : ℕ) (m₀ m : List ℕ) : Type 0 where
-  pub is-reach : (g : Loop) (r : ℕ → ℕ) → Tells g r edges tails heads tights → m ≡ reach g r left m₀
-  pub keeps : (v : ℕ) → Marked m₀ v → Marked m v
 
 -- the weight of each node, and 0 past the nodes
 unfoldable pub weightsOf : Loop → (ℕ → ℕ) → List ℕ
 weightsOf g r = map (weight g r) (span 0 (g .graph .nodes)) ++ replicate (64 - g .graph .nodes) 0
-
-map-at : (f : ℕ → ℕ) (a n i : ℕ) → i < n → getD (map f (span a n)) i 0 ≡ f (a + i)
-unfolding span
-map-at f a zero i l = absurd (not-suc-le-zero l)
-map-at f a (suc n) zero l = rw add-zero
-map-at f a (suc n) (suc i) l = rw (add-suc, ← suc-add) (map-at f (suc a) n i (le-of-suc-le-suc l))
 
 -- the place of a node holds its weight
 pub weights-at : (g : Loop) (r : ℕ → ℕ) (v : ℕ) → v < g .graph .nodes → getD (weightsOf g r) v 0 ≡ weight g r v
@@ -65,7 +49,7 @@ weights-at g r v l =
       length-map (span 0 (g .graph .nodes)) (weight g r),
       span-length 0 (g .graph .nodes),
     ) in
-    List·getD-append (map (weight g r) (span 0 (g .graph .nodes))) (replicate (64 - g .graph .nodes) 0) 0 v here ∙ map-at (weight g r) 0 (g .graph .nodes) v l ∙ ap (weight g r) (zero-add v)
+    List·getD-append (map (weight g r) (span 0 (g .graph .nodes))) (replicate (64 - g .graph .nodes) 0) 0 v here ∙ mapped-at (weight g r) 0 (g .graph .nodes) v l ∙ ap (weight g r) (zero-add v)
 
 pub weights-length : (g : Loop) (r : ℕ → ℕ) → g .graph .nodes ≤ 64 → length (weightsOf g r) ≡ 64
 unfolding weightsOf

@@ -8,7 +8,8 @@ ghost use Rattle.form.specs.Places.{retimingOf};
 ghost use Rattle.form.specs.Ranges.{WellFormed};
 ghost use Rattle.legal.specs.Loop.{Loop, loopOf};
 ghost use Rattle.reach.specs.Weight.{tight, weight};
-ghost use Rattle.reach.specs.Tables.{marksNew, marked, Inside, Tells, Swept, Reaches, weightsOf};
+ghost use Rattle.reach.specs.Tables.{Fits, Tells, weightsOf};
+ghost use Rattle.reach.specs.Marking.{Queued, Met, Spread, Levelled, Reaches};
 use form::Form;
 
 // A byte as a u16; the bound spares each use a proof.
@@ -44,104 +45,157 @@ fn tights_of(form: Form) -> [u8; 256]
     tights
 }
 
-// Whether an edge marks a new node: the edge is tight, its tail marked, and its head not.
-fn marks_new(tight: u8, tail: u8, head: u8) -> bool
-    ensures { λ b. ⌜ b ≡ marksNew tight tail head ⌝ }
+// One edge: where it is tight and its head not marked yet, the head is marked and joins the queue. The queue's end.
+fn mark(marks: &mut [u8; 64], queue: &mut [u8; 64], end: u8, head: u8, tight: u8) -> u8
+    requires { ⌜ Queued (now marks) (now queue) end × (head < 64) ⌝ }
+    ensures { λ r. ⌜ Met head tight (now (marks .entry)) (now (queue .entry)) end (now (marks .exit)) (now (queue .exit)) r ⌝ }
 {
     if tight != 1 {
-        return false;
+        return end;
     }
-    if tail != 1 {
-        return false;
+    if marks[head as usize] == 1 {
+        return end;
     }
-    head != 1
+    marks[head as usize] = 1;
+    queue[end as usize] = head;
+    end + 1
 }
 
-// One sweep over the edges, each of which marks its head where its tail is marked; whether it marked a new node.
-fn sweep<'a>(
+// The edges out of one node, along the links: each is met once.
+fn spread<'a>(
     marks: &mut [u8; 64],
+    queue: &mut [u8; 64],
+    node: u8,
+    from: u8,
     edges: u16,
-    tails: &'a [u8; 256],
+    first: &'a [u16; 64],
+    next: &'a [u16; 256],
     heads: &'a [u8; 256],
     tights: &'a [u8; 256],
-) -> bool
-    requires { ⌜ Inside edges (now tails) (now heads) ⌝ }
-    ensures { λ new. ⌜ Swept edges (now (tails .entry)) (now (heads .entry)) (now (tights .entry)) (now (marks .entry)) (now (marks .exit)) new ⌝ }
+) -> u8
+    requires { ⌜ Fits edges (now first) (now next) (now heads) × Queued (now marks) (now queue) from × (node < 64) ⌝ }
+    ensures { λ r. ⌜ Spread edges (now (first .entry)) (now (next .entry)) (now (heads .entry)) (now (tights .entry)) node (now (marks .entry)) (now (queue .entry)) from (now (marks .exit)) (now (queue .exit)) r ⌝ }
 {
-    let mut new = false;
-    for e in 0..edges {
+    let mut end = from;
+    let mut e = first[node as usize];
+    while e < edges {
         let i = e as usize;
-        let tail = tails[i] as usize;
-        let head = heads[i] as usize;
-        if marks_new(tights[i], marks[tail], marks[head]) {
-            marks[head] = 1;
-            new = true;
-        }
+        end = mark(marks, queue, end, heads[i], tights[i]);
+        e = next[i];
     }
-    new
+    end
 }
 
-// At most `left` edges further. A sweep that marks no new node is the last: all further ones would do the same.
+// One edge further: from the nodes that were reached last, at places `from` to `to` of the queue.
+fn level<'a>(
+    marks: &mut [u8; 64],
+    queue: &mut [u8; 64],
+    from: u8,
+    to: u8,
+    edges: u16,
+    first: &'a [u16; 64],
+    next: &'a [u16; 256],
+    heads: &'a [u8; 256],
+    tights: &'a [u8; 256],
+) -> u8
+    requires { ⌜ Fits edges (now first) (now next) (now heads) × Queued (now marks) (now queue) to × (from ≤ to) ⌝ }
+    ensures { λ r. ⌜ Levelled edges (now (first .entry)) (now (next .entry)) (now (heads .entry)) (now (tights .entry)) from (now (marks .entry)) (now (queue .entry)) to (now (marks .exit)) (now (queue .exit)) r ⌝ }
+{
+    let mut end = to;
+    for i in from..to {
+        let node = queue[i as usize];
+        end = spread(marks, queue, node, end, edges, first, next, heads, tights);
+    }
+    end
+}
+
+// At most `left` edges further. A node joins the queue once, so that all levels together cost at most N + E steps.
 fn reach<'a>(
     marks: &mut [u8; 64],
+    queue: &mut [u8; 64],
+    from: u8,
+    to: u8,
     edges: u16,
-    tails: &'a [u8; 256],
+    first: &'a [u16; 64],
+    next: &'a [u16; 256],
     heads: &'a [u8; 256],
     tights: &'a [u8; 256],
     left: u8,
-)
-    requires { ⌜ Inside edges (now tails) (now heads) ⌝ }
-    ensures { λ _. ⌜ Reaches edges (now (tails .entry)) (now (heads .entry)) (now (tights .entry)) left (now (marks .entry)) (now (marks .exit)) ⌝ }
+) -> u8
+    requires { ⌜ Fits edges (now first) (now next) (now heads) × Queued (now marks) (now queue) to × (from ≤ to) ⌝ }
+    ensures { λ r. ⌜ Reaches edges (now (first .entry)) (now (next .entry)) (now (heads .entry)) (now (tights .entry)) from left (now (marks .entry)) (now (queue .entry)) to (now (marks .exit)) (now (queue .exit)) r ⌝ }
 {
     if left == 0 {
-        return;
+        return to;
     }
-    if sweep(marks, edges, tails, heads, tights) {
-        reach(marks, edges, tails, heads, tights, left - 1);
+    if from == to {
+        return to;
     }
+    let end = level(marks, queue, from, to, edges, first, next, heads, tights);
+    reach(
+        marks,
+        queue,
+        to,
+        end,
+        edges,
+        first,
+        next,
+        heads,
+        tights,
+        left - 1,
+    )
 }
 
-// How many nodes are marked.
-fn marked_of(nodes: u8, marks: &[u8; 64]) -> u8
-    requires { ⌜ nodes ≤ 64 ⌝ }
-    ensures { λ r. ⌜ r ≡ marked (now (marks .entry)) nodes ⌝ }
-{
-    let mut count: u8 = 0;
-    for v in 0..nodes {
-        if marks[v as usize] == 1 {
-            count += 1;
-        }
-    }
-    count
-}
-
-// How many other nodes node v reaches.
+// How many other nodes node v reaches: as many as have joined the queue after it.
 fn weight_of<'a>(
     v: u8,
     nodes: u8,
     edges: u16,
-    tails: &'a [u8; 256],
+    first: &'a [u16; 64],
+    next: &'a [u16; 256],
     heads: &'a [u8; 256],
     tights: &'a [u8; 256],
 ) -> u8
-    requires { ⌜ (v < nodes) × (nodes ≤ 64) × Inside edges (now tails) (now heads) ⌝ }
-    ensures { λ w. ⌜ ((g : Loop) (r : ℕ → ℕ) → g .graph .nodes ≡ nodes → Tells g r edges (now (tails .entry)) (now (heads .entry)) (now (tights .entry)) → w ≡ weight g r v) ⌝ }
+    requires { ⌜ (v < nodes) × (nodes ≤ 64) × Fits edges (now first) (now next) (now heads) ⌝ }
+    ensures { λ w. ⌜ ((g : Loop) (r : ℕ → ℕ) → g .graph .nodes ≡ nodes → Tells g r edges (now (first .entry)) (now (next .entry)) (now (heads .entry)) (now (tights .entry)) → w ≡ weight g r v) ⌝ }
 {
     let mut marks = [0u8; 64];
     marks[v as usize] = 1;
-    reach(&mut marks, edges, tails, heads, tights, nodes);
-    marked_of(nodes, &marks) - 1
+    let mut queue = [0u8; 64];
+    queue[0] = v;
+    let reached = reach(
+        &mut marks,
+        &mut queue,
+        0,
+        1,
+        edges,
+        first,
+        next,
+        heads,
+        tights,
+        nodes,
+    );
+    reached - 1
 }
 
-// The weight of each node under the form's retimings; 0 past the nodes.
+// The weight of each node under the form's retimings; 0 past the nodes. At most N+E steps from each of the N nodes.
 pub fn weights(form: Form) -> [u8; 64]
     requires { ⌜ WellFormed form ⌝ }
     ensures { λ w. ⌜ w ≡ weightsOf (loopOf form) (retimingOf form) ⌝ }
 {
     let tights = tights_of(form);
+    let out = links::links_of(&form.from, form.edges);
     let mut weights = [0u8; 64];
     for v in 0..form.nodes {
-        weights[v as usize] = weight_of(v, form.nodes, form.edges, &form.from, &form.to, &tights);
+        weights[v as usize] = weight_of(
+            v,
+            form.nodes,
+            form.edges,
+            &out.first,
+            &out.next,
+            &form.to,
+            &tights,
+        );
     }
     weights
 }

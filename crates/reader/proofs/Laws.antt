@@ -3,7 +3,7 @@
 use mathlib.Core.Path.{_≡_, refl, ap, sym, _∙_}
 use mathlib.Core.Bool.{Bool, true, false}
 use mathlib.Core.List.{List, map}
-use lib.ListN.{length, getD, length-map}
+use lib.ListN.{length, getD, replicate, length-map}
 use Prim.Native.Nat.{ℕ, zero, suc, _+_, _*_, _-_, _<_, _≤_}
 use native.Mathlib.Nat.{mul-le-mul-left, mul-suc, sub-zero}
 use native.Mathlib.Numerals.{add-one}
@@ -16,9 +16,31 @@ use Rattle.reader.specs.declared.Reading.{Reading}
 use Rattle.answer.specs.declared.Refusal.{Refusal}
 use Rattle.answer.specs.declared.Refusal.the-variants.{None, Retiming, Tail}
 use Rattle.form.specs.declared.Form.{Form}
-use Rattle.form.specs.Places.{emptyForm, scheduled}
+use Rattle.form.specs.Places.{noStep, emptyForm, withCounts, scheduled, scheduledOf}
 use Rattle.reader.specs.declared.Record.{Record}
-use Rattle.reader.specs.Tables.{headerOf, table, classStep, nodeStep, edgeStep, startStep, Stage}
+use Rattle.reader.specs.declared.Counts.{Counts}
+use Rattle.reader.specs.declared.ClassTable.{ClassTable}
+use Rattle.reader.specs.declared.NodeTable.{NodeTable}
+use Rattle.reader.specs.declared.EdgeTable.{EdgeTable}
+use Rattle.reader.specs.declared.StartTable.{StartTable}
+use Rattle.reader.specs.Tables.{
+  headerOf,
+  table,
+  classStep,
+  nodeStep,
+  edgeStep,
+  startStep,
+  Headed,
+  Stage,
+  withClasses,
+  withNodes,
+  withEdges,
+  withStarts,
+  ClassesRead,
+  NodesRead,
+  EdgesRead,
+  StartsRead,
+}
 use Rattle.reader.specs.Reading.{
   zeroFrom,
   normalized,
@@ -166,3 +188,52 @@ module _ (s : List ℕ) (x : Reading) (r : Refusal) where
       → _≡_ {A = Record} (record { refusal = r; form = x .form }) (readForm s)
   unfolding readForm answered pick
   read-fine ex er b = rw (← ex, ← er, b)
+
+-- the tables, each read from where the one before it ends
+module _
+    (s : List ℕ)
+    (h : Counts)
+    (k : ClassTable)
+    (v : NodeTable)
+    (e : EdgeTable)
+    (n : ℕ)
+    (x : StartTable)
+    (headed : Headed s h)
+    (ks : ClassesRead s (h .next) (h .classes) k)
+    (ns : NodesRead s (k .next) (h .classes) (h .nodes) v)
+    (es : EdgesRead s (v .next) (h .nodes) (h .edges) e)
+    (en : n ≡ scheduledOf (h .length) (h .nodes))
+    (ss : StartsRead s (e .next) (h .length) (k .class) (v .node) n x) where
+  abbrev counted : Form
+  counted = withCounts emptyForm (h .classes) (h .nodes) (h .edges) (h .length)
+
+  -- the form that they make, and the cursor past them
+  abbrev pub whole : Reading
+  whole = record {
+    form = withStarts (withEdges (withNodes (withClasses counted (k .class)) (v .node)) (e .from) (e .to) (e .delays)) (x .start) (x .retiming);
+    next = x .next;
+  }
+
+  pub whole-read : whole ≡ startsRead s
+  unfolding emptyForm
+  whole-read =
+      let classed = withClasses counted (k .class) in
+      let noded = withNodes classed (v .node) in
+      let edged = withEdges noded (e .from) (e .to) (e .delays) in
+      staged s
+      (record { form = counted; next = h .next })
+      (record { form = classed; next = k .next })
+      (record { form = noded; next = v .next })
+      (record { form = edged; next = e .next })
+      whole n (headed .is) (ks counted .is) (ns classed refl .is) (es noded refl .is) en (ss edged refl refl refl .is)
+
+  module _ (r : Refusal) (er : r ≡ endOf s (record { form = withStarts counted (replicate 64 noStep) (x .retiming); next = x .next })) where
+    -- a refused record comes with the empty form
+    pub answered-refused : fine r ≡ false → (a : Record) → a .refusal ≡ r → a .form ≡ emptyForm → a ≡ readForm s
+    unfolding endOf retimingOffset
+    answered-refused b a ea ef = read-refused s whole (a .refusal) (a .form) whole-read (ea ∙ er) (ap fine ea ∙ b) ef
+
+    -- any other with what was read
+    pub answered-fine : fine r ≡ true → _≡_ {A = Record} (record { refusal = r; form = whole .form }) (readForm s)
+    unfolding endOf retimingOffset
+    answered-fine b = read-fine s whole r whole-read er b

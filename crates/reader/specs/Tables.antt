@@ -3,12 +3,23 @@
 use mathlib.Core.Path.{_≡_}
 use mathlib.Core.List.{List}
 use Prim.Native.Nat.{ℕ, zero, suc, _+_, _*_, _≤_}
+use lib.ListN.{replicate}
 use Rattle.lists.specs.Pick.{pick}
 use Rattle.answer.specs.Refused.{fine}
-use Rattle.form.specs.Places.{emptyForm, latencyOf, withCounts, withClass, withNode, withEdge, withStart}
+use Rattle.form.specs.declared.Form.{Form}
+use Rattle.form.specs.declared.Class.{Class}
+use Rattle.form.specs.declared.Node.{Node}
+use Rattle.form.specs.declared.BodyStep.{BodyStep}
+use Rattle.form.specs.Places.{noClass, noNode, noStep, emptyForm, latencyOf, withCounts, withClass, withNode, withEdge, withStart}
+use Rattle.field.specs.declared.Cursor.{Cursor}
 use Rattle.field.specs.declared.Taken.{Taken}
 use Rattle.field.specs.declared.Kind.the-variants.{Mark, Version, Count}
 use Rattle.field.specs.Taking.{taken, onward}
+use Rattle.reader.specs.declared.Counts.{Counts}
+use Rattle.reader.specs.declared.ClassTable.{ClassTable}
+use Rattle.reader.specs.declared.NodeTable.{NodeTable}
+use Rattle.reader.specs.declared.EdgeTable.{EdgeTable}
+use Rattle.reader.specs.declared.StartTable.{StartTable}
 use Rattle.reader.specs.declared.Reading.{Reading}
 use Rattle.reader.specs.Rows.{classAt, nodeAt, edgeAt, startAt}
 
@@ -69,13 +80,13 @@ startStep s v x = record {
 }
 
 -- the header read, with the bounds that the tables need
-pub record Headed (s : List ℕ) (r : Reading) : Type 0 where
-  pub is : r ≡ headerOf s
-  pub classes : r .form .classes ≤ 4
-  pub nodes : r .form .nodes ≤ 64
-  pub edges : r .form .edges ≤ 256
-  pub length : r .form .length ≤ 512
-  pub near : r .next .at ≤ 11
+pub record Headed (s : List ℕ) (h : Counts) : Type 0 where
+  pub is : _≡_ {A = Reading} (record { form = withCounts emptyForm (h .classes) (h .nodes) (h .edges) (h .length); next = h .next }) (headerOf s)
+  pub few-classes : h .classes ≤ 4
+  pub few-nodes : h .nodes ≤ 64
+  pub few-edges : h .edges ≤ 256
+  pub short : h .length ≤ 512
+  pub near : h .next .at ≤ 11
 
 -- a table read, with rows of a width at most: the counts stay, and the cursor moves no further than the rows reach
 pub record Stage (step : ℕ → Reading → Reading) (n : ℕ) (x : Reading) (width : ℕ) (r : Reading) : Type 0 where
@@ -85,3 +96,90 @@ pub record Stage (step : ℕ → Reading → Reading) (n : ℕ) (x : Reading) (w
   pub edges : r .form .edges ≡ x .form .edges
   pub length : r .form .length ≡ x .form .length
   pub near : r .next .at ≤ x .next .at + width * n
+
+-- the form with a whole table given
+abbrev pub withClasses : Form → List Class → Form
+withClasses f ks = record {
+  classes = f .classes;
+  nodes = f .nodes;
+  edges = f .edges;
+  length = f .length;
+  class = ks;
+  node = f .node;
+  from = f .from;
+  to = f .to;
+  delays = f .delays;
+  start = f .start;
+  retiming = f .retiming;
+}
+
+abbrev pub withNodes : Form → List Node → Form
+withNodes f ns = record {
+  classes = f .classes;
+  nodes = f .nodes;
+  edges = f .edges;
+  length = f .length;
+  class = f .class;
+  node = ns;
+  from = f .from;
+  to = f .to;
+  delays = f .delays;
+  start = f .start;
+  retiming = f .retiming;
+}
+
+abbrev pub withEdges : Form → List ℕ → List ℕ → List ℕ → Form
+withEdges f ts hs ds = record {
+  classes = f .classes;
+  nodes = f .nodes;
+  edges = f .edges;
+  length = f .length;
+  class = f .class;
+  node = f .node;
+  from = ts;
+  to = hs;
+  delays = ds;
+  start = f .start;
+  retiming = f .retiming;
+}
+
+abbrev pub withStarts : Form → List BodyStep → List ℕ → Form
+withStarts f ss rs = record {
+  classes = f .classes;
+  nodes = f .nodes;
+  edges = f .edges;
+  length = f .length;
+  class = f .class;
+  node = f .node;
+  from = f .from;
+  to = f .to;
+  delays = f .delays;
+  start = ss;
+  retiming = rs;
+}
+
+-- each table, read into whatever form holds the counts: from an empty one at the cursor to what comes back
+abbrev pub ClassesRead : List ℕ → Cursor → ℕ → ClassTable → Type 0
+ClassesRead s at n r =
+    (f : Form) → Stage (classStep s) n (record { form = withClasses f (replicate 4 noClass); next = at }) 3 (record { form = withClasses f (r .class); next = r .next })
+
+abbrev pub NodesRead : List ℕ → Cursor → ℕ → ℕ → NodeTable → Type 0
+NodesRead s at classes n r =
+    (f : Form) → f .classes ≡ classes
+    → Stage (nodeStep s) n (record { form = withNodes f (replicate 64 noNode); next = at }) 6 (record { form = withNodes f (r .node); next = r .next })
+
+abbrev pub EdgesRead : List ℕ → Cursor → ℕ → ℕ → EdgeTable → Type 0
+EdgesRead s at nodes n r =
+    (f : Form) → f .nodes ≡ nodes
+    → Stage (edgeStep s) n
+    (record { form = withEdges f (replicate 256 0) (replicate 256 0) (replicate 256 0); next = at })
+    3
+    (record { form = withEdges f (r .from) (r .to) (r .delays); next = r .next })
+
+abbrev pub StartsRead : List ℕ → Cursor → ℕ → List Class → List Node → ℕ → StartTable → Type 0
+StartsRead s at l ks ns n r =
+    (f : Form) → f .length ≡ l → f .class ≡ ks → f .node ≡ ns
+    → Stage (startStep s) n
+    (record { form = withStarts f (replicate 64 noStep) (replicate 64 0); next = at })
+    3
+    (record { form = withStarts f (r .start) (r .retiming); next = r .next })

@@ -1,10 +1,10 @@
 // A record's bytes into a held form: every field in layout order, at a plain cursor.
 ghost use mathlib.Core.Path.{_≡_};
 ghost use Prim.Native.Nat.{_+_, _*_, _-_, _≤_, _<_};
-ghost use lib.ListN.{length, getD};
-ghost use Rattle.form.specs.Places.{noClass, scheduledOf};
+ghost use lib.ListN.{length, getD, replicate};
+ghost use Rattle.form.specs.Places.{noClass, noNode, noStep, emptyForm, withCounts, scheduledOf};
 ghost use Rattle.reader.specs.Rows.{ClassRead, NodeRead, EdgeRead, StartRead, operationOf};
-ghost use Rattle.reader.specs.Tables.{Stage, table, classStep, nodeStep, edgeStep, startStep, headerOf, Headed};
+ghost use Rattle.reader.specs.Tables.{Headed, ClassesRead, NodesRead, EdgesRead, StartsRead, withStarts};
 ghost use Rattle.reader.specs.Reading.{someZero, normalized, endOf, readForm};
 use answer::Refusal;
 use field::Cursor;
@@ -38,9 +38,42 @@ pub struct StartRow {
     pub next: Cursor,
 }
 
-// The form as far as it is read, and the cursor.
+// The form as far as it is read, and the cursor: what the definitions of reading speak of.
 pub struct Reading {
     pub form: Form,
+    pub next: Cursor,
+}
+
+// The counts, and the cursor past them. Tables go from stage to stage and not the form, which would be copied at each.
+pub struct Counts {
+    pub classes: u8,
+    pub nodes: u8,
+    pub edges: u16,
+    pub length: u16,
+    pub next: Cursor,
+}
+
+// A table as far as it is read, and the cursor past its rows.
+pub struct ClassTable {
+    pub class: [Class; 4],
+    pub next: Cursor,
+}
+
+pub struct NodeTable {
+    pub node: [Node; 64],
+    pub next: Cursor,
+}
+
+pub struct EdgeTable {
+    pub from: [u8; 256],
+    pub to: [u8; 256],
+    pub delays: [u8; 256],
+    pub next: Cursor,
+}
+
+pub struct StartTable {
+    pub start: [BodyStep; 64],
+    pub retiming: [u8; 64],
     pub next: Cursor,
 }
 
@@ -177,7 +210,7 @@ fn latency_of(class: [Class; 4], number: u8) -> u8
 }
 
 // Mark, version and the counts.
-fn header(s: &[u8]) -> Reading
+fn header(s: &[u8]) -> Counts
     ensures { λ r. ⌜ Headed (now (s .entry)) r ⌝ }
 {
     let begin = Cursor {
@@ -196,112 +229,144 @@ fn header(s: &[u8]) -> Reading
     let length_at = edges.next;
     let length = field::take(s, length_at, 2, 0, 512, Kind::Count);
     let next = length.next;
-    let mut form = Form::empty();
-    form.classes = classes.value as u8;
-    form.nodes = nodes.value as u8;
-    form.edges = edges.value as u16;
-    form.length = length.value as u16;
-    Reading { form, next }
+    Counts {
+        classes: classes.value as u8,
+        nodes: nodes.value as u8,
+        edges: edges.value as u16,
+        length: length.value as u16,
+        next,
+    }
 }
 
 // The classes' rows.
-fn classes(s: &[u8], reading: Reading) -> Reading
-    requires { ⌜ (reading .form .classes ≤ 4) × (reading .next .at ≤ 20000) ⌝ }
-    ensures { λ r. ⌜ Stage (classStep (now (s .entry))) (reading .form .classes) reading 3 r ⌝ }
+fn classes(s: &[u8], at: Cursor, count: u8) -> ClassTable
+    requires { ⌜ (count ≤ 4) × (at .at ≤ 20000) ⌝ }
+    ensures { λ r. ⌜ ClassesRead (now (s .entry)) at count r ⌝ }
 {
-    let mut form = reading.form;
-    let mut next = reading.next;
-    let classes = form.classes as usize;
+    let mut class = [Class {
+        latency: 0,
+        units: 0,
+        pipelined: 0,
+    }; 4];
+    let mut next = at;
+    let end = count as usize;
     let mut i: usize = 0;
-    while i < classes {
+    while i < end {
         let refusal = next.refusal;
         if !refusal.is_fine() {
-            return Reading { form, next };
+            return ClassTable { class, next };
         }
         let row = class_row(s, next);
-        let class = row.class;
-        form.class[i] = class;
+        let read = row.class;
+        class[i] = read;
         next = row.next;
         i += 1;
     }
-    Reading { form, next }
+    ClassTable { class, next }
 }
 
 // The nodes' rows.
-fn nodes(s: &[u8], reading: Reading) -> Reading
-    requires { ⌜ (reading .form .nodes ≤ 64) × (reading .next .at ≤ 20000) ⌝ }
-    ensures { λ r. ⌜ Stage (nodeStep (now (s .entry))) (reading .form .nodes) reading 6 r ⌝ }
+fn nodes(s: &[u8], at: Cursor, classes: u8, count: u8) -> NodeTable
+    requires { ⌜ (count ≤ 64) × (at .at ≤ 20000) ⌝ }
+    ensures { λ r. ⌜ NodesRead (now (s .entry)) at classes count r ⌝ }
 {
-    let mut form = reading.form;
-    let mut next = reading.next;
-    let classes = form.classes;
-    let nodes = form.nodes as usize;
+    let mut node = [Node {
+        class: 0,
+        operation: Operation::Add(0),
+    }; 64];
+    let mut next = at;
+    let end = count as usize;
     let mut i: usize = 0;
-    while i < nodes {
+    while i < end {
         let refusal = next.refusal;
         if !refusal.is_fine() {
-            return Reading { form, next };
+            return NodeTable { node, next };
         }
         let row = node_row(s, next, classes);
-        let node = row.node;
-        form.node[i] = node;
+        let read = row.node;
+        node[i] = read;
         next = row.next;
         i += 1;
     }
-    Reading { form, next }
+    NodeTable { node, next }
 }
 
 // The edges' rows.
-fn edges(s: &[u8], reading: Reading) -> Reading
-    requires { ⌜ (reading .form .edges ≤ 256) × (reading .next .at ≤ 20000) ⌝ }
-    ensures { λ r. ⌜ Stage (edgeStep (now (s .entry))) (reading .form .edges) reading 3 r ⌝ }
+fn edges(s: &[u8], at: Cursor, nodes: u8, count: u16) -> EdgeTable
+    requires { ⌜ (count ≤ 256) × (at .at ≤ 20000) ⌝ }
+    ensures { λ r. ⌜ EdgesRead (now (s .entry)) at nodes count r ⌝ }
 {
-    let mut form = reading.form;
-    let mut next = reading.next;
-    let nodes = form.nodes;
-    let edges = form.edges as usize;
+    let mut from = [0u8; 256];
+    let mut to = [0u8; 256];
+    let mut delays = [0u8; 256];
+    let mut next = at;
+    let end = count as usize;
     let mut i: usize = 0;
-    while i < edges {
+    while i < end {
         let refusal = next.refusal;
         if !refusal.is_fine() {
-            return Reading { form, next };
+            return EdgeTable {
+                from,
+                to,
+                delays,
+                next,
+            };
         }
         let row = edge_row(s, next, nodes);
         let edge = row.edge;
-        form.from[i] = edge.from;
-        form.to[i] = edge.to;
-        form.delays[i] = edge.delays;
+        from[i] = edge.from;
+        to[i] = edge.to;
+        delays[i] = edge.delays;
         next = row.next;
         i += 1;
     }
-    Reading { form, next }
+    EdgeTable {
+        from,
+        to,
+        delays,
+        next,
+    }
 }
 
-// The starts and retimings, `nodes` of them or none.
-fn starts(s: &[u8], reading: Reading, nodes: usize) -> Reading
-    requires { ⌜ (nodes ≤ 64) × (reading .form .length ≤ 512) × (reading .next .at ≤ 20000) ⌝ }
-    ensures { λ r. ⌜ Stage (startStep (now (s .entry))) nodes reading 3 r ⌝ }
+// The starts and retimings, `count` of them or none.
+fn starts(
+    s: &[u8],
+    at: Cursor,
+    length: u16,
+    class: [Class; 4],
+    node: [Node; 64],
+    count: usize,
+) -> StartTable
+    requires { ⌜ (count ≤ 64) × (length ≤ 512) × (at .at ≤ 20000) ⌝ }
+    ensures { λ r. ⌜ StartsRead (now (s .entry)) at length class node count r ⌝ }
 {
-    let mut form = reading.form;
-    let mut next = reading.next;
-    let length = form.length;
+    let mut start = [BodyStep(0); 64];
+    let mut retiming = [0u8; 64];
+    let mut next = at;
     let mut i: usize = 0;
-    while i < nodes {
+    while i < count {
         let refusal = next.refusal;
         if !refusal.is_fine() {
-            return Reading { form, next };
+            return StartTable {
+                start,
+                retiming,
+                next,
+            };
         }
-        let node = form.node[i];
-        let class = form.class;
-        let latency = latency_of(class, node.class);
+        let place = node[i];
+        let latency = latency_of(class, place.class);
         let row = start_row(s, next, length, latency);
-        let start = row.start;
-        form.start[i] = start;
-        form.retiming[i] = row.retiming;
+        let read = row.start;
+        start[i] = read;
+        retiming[i] = row.retiming;
         next = row.next;
         i += 1;
     }
-    Reading { form, next }
+    StartTable {
+        start,
+        retiming,
+        next,
+    }
 }
 
 // Whether one of the first retimings is 0.
@@ -332,20 +397,17 @@ fn is_normalized(length: u16, nodes: u8, retiming: [u8; 64]) -> bool
 }
 
 // After the last field: a schedule has a retiming 0, and no byte is left.
-fn end_of(s: &[u8], reading: Reading) -> Refusal
-    requires { ⌜ (reading .form .nodes ≤ 64) × (reading .next .at ≤ 60000) ⌝ }
-    ensures { λ r. ⌜ r ≡ endOf (now (s .entry)) reading ⌝ }
+fn end_of(s: &[u8], counts: Counts, retiming: [u8; 64], next: Cursor) -> Refusal
+    requires { ⌜ (counts .nodes ≤ 64) × (next .at ≤ 60000) ⌝ }
+    ensures { λ r. ⌜ r ≡ endOf (now (s .entry)) (record { form = withStarts (withCounts emptyForm (counts .classes) (counts .nodes) (counts .edges) (counts .length)) (replicate 64 noStep) retiming; next = next }) ⌝ }
 {
-    let form = reading.form;
-    let next = reading.next;
     let refusal = next.refusal;
     if !refusal.is_fine() {
         return refusal;
     }
-    let retiming = form.retiming;
-    if !is_normalized(form.length, form.nodes, retiming) {
-        let before = 13 + 3 * form.classes as u32 + 6 * form.nodes as u32;
-        return Refusal::Retiming(before + 3 * form.edges as u32);
+    if !is_normalized(counts.length, counts.nodes, retiming) {
+        let before = 13 + 3 * counts.classes as u32 + 6 * counts.nodes as u32;
+        return Refusal::Retiming(before + 3 * counts.edges as u32);
     }
     if next.at < s.len() {
         return Refusal::Tail(next.at as u32);
@@ -363,20 +425,49 @@ fn scheduled_nodes(length: u16, nodes: u8) -> usize
     nodes as usize
 }
 
+// A refused record, with the empty form.
+fn refused(refusal: Refusal) -> Record
+    ensures { λ r. ⌜ (r .refusal ≡ refusal) × (r .form ≡ emptyForm) ⌝ }
+{
+    Record {
+        refusal,
+        form: Form::empty(),
+    }
+}
+
 // The record in the lent bytes, or the first refusal.
 pub fn read(s: &[u8]) -> Record
     ensures { λ r. ⌜ r ≡ readForm (now (s .entry)) ⌝ }
 {
-    let begun = edges(s, nodes(s, classes(s, header(s))));
-    let form = begun.form;
-    let reading = starts(s, begun, scheduled_nodes(form.length, form.nodes));
-    let refusal = end_of(s, reading);
+    let counts = header(s);
+    let board = classes(s, counts.next, counts.classes);
+    let class = board.class;
+    let operations = nodes(s, board.next, counts.classes, counts.nodes);
+    let node = operations.node;
+    let graph = edges(s, operations.next, counts.nodes, counts.edges);
+    let scheduled = scheduled_nodes(counts.length, counts.nodes);
+    let schedule = starts(s, graph.next, counts.length, class, node, scheduled);
+    let retiming = schedule.retiming;
+    let refusal = end_of(s, counts, retiming, schedule.next);
     if !refusal.is_fine() {
-        return Record {
-            refusal,
-            form: Form::empty(),
-        };
+        return refused(refusal);
     }
-    let form = reading.form;
+    let from = graph.from;
+    let to = graph.to;
+    let delays = graph.delays;
+    let start = schedule.start;
+    let form = Form {
+        classes: counts.classes,
+        nodes: counts.nodes,
+        edges: counts.edges,
+        length: counts.length,
+        class,
+        node,
+        from,
+        to,
+        delays,
+        start,
+        retiming,
+    };
     Record { refusal, form }
 }

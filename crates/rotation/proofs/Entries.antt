@@ -28,7 +28,7 @@ use Rattle.record.specs.Read.{read-well-formed}
 use Rattle.record.specs.ReadHeld.{read-held}
 use Rattle.legal.specs.Loop.{Loop, Pair, loopOf, pairOf}
 use Rattle.legal.specs.Systems.{knotted}
-use Rattle.legal.specs.Handed.{Handed}
+use Rattle.legal.specs.Handed.{Handed, handed-none}
 use Rattle.knots.specs.Found.{KnotFound}
 use Rattle.judge.specs.Early.{read-early}
 use Rattle.rotation.specs.declared.Plan.{Plan}
@@ -36,15 +36,6 @@ use Rattle.rotation.specs.declared.Scheduled.{Scheduled}
 use Rattle.rotation.specs.Rotation.{firstForm}
 use Rattle.rotation.specs.FirstLaws.{first-written}
 use Rattle.rotation.specs.Scheduling.{scheduleRecord, RecordScheduled, Planned, PlanWritten, firstAsked, unturned}
-
--- beside a refusal that no cycle proves none is handed over
-pub handed-none : (g : Loop) (p : Pair) (r : Refusal) (c : Cycle) → numberOf r ≢ 12 → numberOf r ≢ 14 → c ≡ noCycle → Handed g p r c
-handed-none g p r c unknotted fitting e = record {
-  knot = λ k. absurd (unknotted (ap numberOf k));
-  impossible = λ k. absurd (fitting (ap numberOf k));
-  none = λ k n. e;
-  filled = λ i h. rw e (zeros-at 64 i);
-}
 
 -- a choice goes the same way where the value chosen is the same
 pick-same : {A : Type 0} (b : Bool) (x x′ y : A) → (b ≡ true → x ≡ x′) → pick b x y ≡ pick b x′ y

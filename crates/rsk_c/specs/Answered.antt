@@ -4,7 +4,7 @@ use mathlib.Core.Path.{_≡_}
 use mathlib.Core.List.{List}
 use Prim.Native.Nat.{ℕ}
 use Rattle.answer.specs.Refused.{numberOf, details}
-use Rattle.answer.specs.Outcome.{answerList}
+use Rattle.answer.specs.Outcome.{noCycle, answerList}
 use Rattle.answer.specs.declared.Refusal.{Refusal}
 use Rattle.answer.specs.declared.Details.{Details}
 use Rattle.answer.specs.declared.Cycle.{Cycle}
@@ -16,6 +16,10 @@ use Rattle.rotation.specs.declared.Scheduled.{Scheduled}
 use Rattle.rotation.specs.Rotation.{firstForm}
 use Rattle.rotation.specs.Scheduling.{RecordScheduled, firstAsked, unturned, rotateAsked, rotatedBy}
 use Rattle.search.specs.Searching.{searchAsked, searchForm, searchTurns}
+use Rattle.run.specs.declared.Ran.{Ran}
+use Rattle.run.specs.Running.{RecordRun}
+use Rattle.plain.specs.declared.Looped.{Looped}
+use Rattle.plain.specs.Answer.{RecordLooped}
 use Rattle.floor.specs.declared.Floored.{Floored}
 use Rattle.floor.specs.Floor.{partNumber, partClass, RecordFloored}
 
@@ -53,3 +57,13 @@ SearchAnswered c z s out after =
 abbrev pub FloorAnswered : List ℕ → ℕ → List ℕ → Type 0
 FloorAnswered s =
     Answered Floored (RecordFloored s) (λ f. f .refusal) (λ f. details (f .floor) (partNumber (f .part)) (partClass (f .part))) (λ f. f .cycle)
+
+-- a record run for k iterations: its run steps
+abbrev pub RunAnswered : ℕ → List ℕ → List ℕ → List ℕ → List ℕ → List ℕ → List ℕ → ℕ → List ℕ → Type 0
+RunAnswered k s starts values₀ finish₀ values finish =
+    Answered Ran (RecordRun s k starts values₀ finish₀ values finish) (λ x. x .refusal) (λ x. details (x .steps) 0 0) (λ x. noCycle)
+
+-- the plain loop of a record for k iterations: no numbers
+abbrev pub PlainAnswered : ℕ → List ℕ → List ℕ → List ℕ → List ℕ → ℕ → List ℕ → Type 0
+PlainAnswered k s starts before after =
+    Answered Looped (RecordLooped s k starts before after) (λ x. x .refusal) (λ x. details 0 0 0) (λ x. x .cycle)

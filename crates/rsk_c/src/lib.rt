@@ -3,7 +3,7 @@ ghost use mathlib.Core.Path.{_≡_};
 ghost use lib.ListN.{length};
 ghost use Rattle.answer.specs.Refused.{numberOf};
 ghost use Rattle.rsk_c.specs.Rewrite.{rewritten, rewrittenOut, rewrittenAnswer};
-ghost use Rattle.rsk_c.specs.Answered.{JudgeAnswered, FitAnswered, FirstAnswered, RotateAnswered, SearchAnswered, FloorAnswered};
+ghost use Rattle.rsk_c.specs.Answered.{JudgeAnswered, FitAnswered, FirstAnswered, RotateAnswered, SearchAnswered, FloorAnswered, RunAnswered, PlainAnswered};
 ghost use Rattle.rsk_c.specs.List.{listedAnswer};
 ghost use Rattle.listing.specs.Lines.{listed, listedBuffer};
 use answer::Cycle;
@@ -146,4 +146,43 @@ pub extern "C" fn rsk_list(record: &[u8], out: &mut [u8], answer: &mut [u32; 69]
         answer::numbers_of(listed.size, 0, 0),
         Cycle::none(),
     )
+}
+
+// The record stepped on the machine for k iterations; its run steps.
+#[no_mangle]
+pub extern "C" fn rsk_run<'a>(
+    record: &'a [u8],
+    k: u16,
+    starts: &'a [u32],
+    values: &mut [u32],
+    finish: &mut [u32],
+    answer: &mut [u32; 69],
+) -> u32
+    ensures { λ r. ⌜ RunAnswered k (now («record» .entry)) (now (starts .entry)) (now (values .entry)) (now (finish .entry)) (now (values .exit)) (now (finish .exit)) r (now (answer .exit)) ⌝ }
+{
+    let ran = run::run(record, k, starts, values, finish);
+    let refusal = ran.refusal;
+    answer::fill(
+        answer,
+        refusal,
+        answer::numbers_of(ran.steps, 0, 0),
+        Cycle::none(),
+    )
+}
+
+// The plain loop of the record for k iterations; no numbers.
+#[no_mangle]
+pub extern "C" fn rsk_plain(
+    record: &[u8],
+    k: u16,
+    starts: &[u32],
+    values: &mut [u32],
+    answer: &mut [u32; 69],
+) -> u32
+    ensures { λ r. ⌜ PlainAnswered k (now («record» .entry)) (now (starts .entry)) (now (values .entry)) (now (values .exit)) r (now (answer .exit)) ⌝ }
+{
+    let looped = plain::plain(record, k, starts, values);
+    let refusal = looped.refusal;
+    let cycle = looped.cycle;
+    answer::fill(answer, refusal, answer::numbers_of(0, 0, 0), cycle)
 }

@@ -43,8 +43,8 @@ fn shorter_of(old: Form, new: Form) -> Form
 }
 
 // Up to `count` rotations from the first schedule on, by the size halved while it is at least the length at hand.
-// A rotation costs at most some N*N*E steps for the weights, E+9*N for each of 1023 steps of the list rule, and N*E for
-// the fit, under two million at 64 nodes and 256 edges; a search makes at most `count` of them after the first schedule.
+// A rotation costs at most some N*(N+E) steps for the weights, E+9*N for each of 1023 steps of the list rule, and N*E for
+// the fit, under a million at 64 nodes and 256 edges; a search makes at most `count` of them after the first schedule.
 pub fn search_form(form: Form, count: u16, size: u16) -> Found
     requires { ⌜ WellFormed form × (knotted (loopOf form) ≡ false) ⌝ }
     ensures { λ r. ⌜ (r .form ≡ searched form count size .best) × (r .rotations ≡ searched form count size .rotations) ⌝ }

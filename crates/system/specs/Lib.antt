@@ -6,3 +6,4 @@ pub mod Rising
 pub mod Laws
 pub mod Turned
 pub mod Same
+pub mod Shorter

@@ -1,3 +1,5 @@
+-- `cases::main` ends: as many requests as there are, and no more turns than a number has.
+-- Assumes nothing.
 use native.Mathlib.Omega.{arith}
 use borrow.Author.Needs.{needs}
 use Rattle.cases.proofs.main.Statement.{statement}

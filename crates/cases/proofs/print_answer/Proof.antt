@@ -1,3 +1,5 @@
+-- `cases::print_answer` ends and keeps within the answer.
+-- Assumes nothing.
 use Prim.Native.Nat.{ℕ, _≤_, _-_}
 use native.Mathlib.Omega.{arith}
 use borrow.Author.Needs.{needs}

@@ -1,3 +1,5 @@
+-- `cases::print_bytes` ends and keeps within the bytes.
+-- Assumes nothing.
 use Prim.Native.Nat.{ℕ, _≤_, _-_}
 use native.Mathlib.Omega.{arith}
 use borrow.Author.Needs.{needs}

@@ -1,6 +1,5 @@
 -- `operands::operand_of` meets its contract: the place lies in the start table or among the values.
 -- Assumes nothing.
-use mathlib.Core.Path.{_≡_}
 use native.Mathlib.Omega.{arith}
 use lib.ListN.{length}
 use borrow.Author.Needs.{needs}

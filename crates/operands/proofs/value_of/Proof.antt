@@ -1,14 +1,12 @@
 -- `operands::value_of` meets its contract: the operands that are left finish the whole.
 -- Assumes nothing.
-use mathlib.Core.Path.{_≡_, sym, _∙_, ap, subst}
+use mathlib.Core.Path.{_∙_}
 use Prim.Native.Nat.{ℕ, _-_, _≤_, _<_}
 use native.Mathlib.Omega.{arith}
-use lib.ListN.{getD}
 use borrow.Author.Needs.{needs}
 use Rattle.legal.specs.Loop.{Loop}
-use Rattle.operands.specs.Combined.{combined}
 use Rattle.operands.specs.Tables.{Tells, Follows}
-use Rattle.operands.proofs.Laws.{Walking, walking-first, walking-next, walking-end, handed-operand}
+use Rattle.operands.proofs.Laws.{Walking, walking-first, walking-on, walking-end}
 use Rattle.operands.proofs.value_of.Statement.{statement}
 use Rattle.operands.proofs.value_of.Tie as tie
 
@@ -63,10 +61,7 @@ loop-again c =
     let a = s .args in
     let inside : l .e < a .edges = omega arith in (
       s .pre .0 .leads-in (l .e) inside,
-      λ g v t f.
-          subst (Walking g v (a .operation) (a .starts .now) (a .values .now) (a .iteration .0) _ _)
-          (ap (combined (a .operation) (l .begun) (l .total)) (sym (handed-operand g _ _ _ _ _ _ _ (l .e) t inside) ∙ sym (c .before .before .operand-of .ensures)) ∙ sym (c .before .combined .ensures))
-          (walking-next g v _ _ _ _ _ _ f (l .e) (l .total) (l .begun) (omega (arith, t .all-edges)) (l .inv .1 g v t f)),
+      λ g v t f. walking-on g v _ _ _ _ _ _ f _ _ _ _ t (l .e) (l .total) (l .begun) inside (l .inv .1 g v t f) _ (c .before .before .operand-of .ensures) _ (c .before .combined .ensures),
     )
 
 closing-of-requires : tie.Need-closing-of-requires Inv-loop μ-loop

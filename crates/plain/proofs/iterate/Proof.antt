@@ -7,8 +7,9 @@ use lib.ListN.{getD}
 use borrow.Author.Needs.{needs}
 use Rattle.legal.specs.Loop.{loopOf, graphOf}
 use Rattle.operands.specs.Given.{form-tells, links-fit, links-begin, links-follow}
+use Rattle.operands.proofs.Laws.{place-small}
 use Rattle.plain.specs.Looping.{iterated}
-use Rattle.plain.proofs.Laws.{place-small, Going, going-none, going-more}
+use Rattle.plain.proofs.Laws.{Going, going-none, going-more}
 use Rattle.plain.proofs.iterate.Statement.{statement}
 use Rattle.plain.proofs.iterate.Tie as tie
 

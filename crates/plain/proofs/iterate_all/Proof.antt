@@ -1,13 +1,12 @@
 -- `plain::iterate_all` meets its contract: the iterations so far are done.
 -- Assumes nothing.
-use mathlib.Core.Path.{_≡_, sym, _∙_}
-use Prim.Native.Nat.{_≤_, _<_, _-_}
+use mathlib.Core.Path.{_≡_}
+use Prim.Native.Nat.{_≤_, _-_}
 use native.Mathlib.Omega.{arith}
 use lib.ListN.{take}
 use borrow.Author.Needs.{needs}
 use Rattle.lists.specs.Quotient.{rows-below}
 use Rattle.legal.specs.Loop.{loopOf}
-use Rattle.operands.specs.Given.{LinksOf}
 use Rattle.plain.proofs.Laws.{Rounds, rounds-none, rounds-more}
 use Rattle.plain.proofs.iterate_all.Statement.{statement}
 use Rattle.plain.proofs.iterate_all.Tie as tie
@@ -19,8 +18,8 @@ Inv-loop iterations starts values₀ form order links i₀ values i =
 abbrev μ-loop : tie.MeasureT-loop
 μ-loop iterations starts values₀ form order links i₀ values i = iterations - i
 
-incoming-of-requires : tie.Need-incoming-of-requires Inv-loop μ-loop
-incoming-of-requires c κs =
+links-of-requires : tie.Need-links-of-requires Inv-loop μ-loop
+links-of-requires c κs =
     let w = c .before .before .before .before .pre .0 in
     (w .edges, λ e l. omega (arith, w .edge e l .to, w .nodes .1))
 
@@ -36,7 +35,7 @@ iterate-requires c κs =
     let p = s .pre in
     let l = c .before .before .before .before .before .before .loop in
     let room = rows-below (l .i) (s .args .iterations) (s .args .t1 .nodes) (omega arith) in (
-      (p .0, c .before .before .before .before .before .before .before .incoming-of .ensures),
+      (p .0, c .before .before .before .before .before .before .before .links-of .ensures),
       ((p .1 .0 .0, p .1 .0 .1), record { for-starts = p .1 .1 .0; for-values = omega (arith, room, p .1 .1 .1, l .inv .1 .long) }),
     )
 
@@ -61,4 +60,4 @@ returns c =
     rw end at (l .inv .1 .so-far)
 
 pub iterate-all-spec : {M : Type 1} → statement M
-iterate-all-spec = tie.close (tie.spec Inv-loop μ-loop incoming-of-requires loop-holds cast-t15 iterate-requires add-i loop-less loop-again same-length returns)
+iterate-all-spec = tie.close (tie.spec Inv-loop μ-loop links-of-requires loop-holds cast-t15 iterate-requires add-i loop-less loop-again same-length returns)

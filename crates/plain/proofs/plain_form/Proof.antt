@@ -7,7 +7,6 @@ use borrow.Author.Tests.{not-true, not-false}
 use Rattle.legal.specs.Loop.{loopOf}
 use Rattle.list_rule.proofs.Ordering.{table-below}
 use Rattle.knots.specs.Found.{ends-form, told-form}
-use Rattle.plain.specs.Ascending.{lead}
 use Rattle.plain.proofs.Answers.{room-for, looped-knot, looped-refused, looped-done}
 use Rattle.plain.proofs.plain_form.Statement.{statement}
 use Rattle.plain.proofs.plain_form.Tie as tie
@@ -43,7 +42,7 @@ iterate-all-requires c κs =
     let s = c .before .before .before .before .before .before .before .before .before .before .before .before .before .before .before .before .before in
     let fits = room-for (s .args .t1 .nodes) _ _ _ _ (c .before .before .before .before .before .before .room-of .ensures) (sym (c .before .before .before .before .before .is-fine .ensures) ∙ not-false _ (c .before .before .before .before .if2 .left)) in
     let o = c .before .order-of .ensures in
-    (s .pre, ((o .0, table-below _ (s .args .t1 .nodes) (s .args .t1 .nodes) _ (omega arith) (omega (arith, s .pre .nodes .0)) (o .1)), fits))
+    (s .pre, ((o .0, table-below _ (s .args .t1 .nodes) (s .args .t1 .nodes) _ (omega arith) (omega (arith, s .pre .nodes .0)) (o .1)), (fits .0, omega (arith, fits .1))))
 
 alone-requires-2 : tie.Need-alone-requires-2
 alone-requires-2 c κs = search needs

@@ -1,33 +1,33 @@
--- `reach::weight_of` meets its contract: the node itself is marked, so there is one to take off.
+-- `reach::weight_of` meets its contract: the node itself waits first, so there is one to take off.
 -- Assumes nothing.
-use Prim.Native.Nat.{_≤_}
+use Prim.Native.Nat.{_<_}
 use native.Mathlib.Omega.{arith}
-use lib.ListN.{replicate}
-use lib.Seq.{getD-set-same}
 use borrow.Author.Needs.{needs}
-use Rattle.reach.proofs.Laws.{some-counted, weight-is}
+use Rattle.reach.proofs.Marks.{queued-start, marking-start, weight-is}
 use Rattle.reach.proofs.weight_of.Statement.{statement}
 use Rattle.reach.proofs.weight_of.Tie as tie
 
 array-write-marks : tie.Need-array-write-marks
 array-write-marks c = search needs
 
-reach-requires : tie.Need-reach-requires
-reach-requires c κs = search needs
+array-write-queue : tie.Need-array-write-queue
+array-write-queue c = search needs
 
-marked-of-requires : tie.Need-marked-of-requires
-marked-of-requires c κs = search needs
+reach-requires : tie.Need-reach-requires
+reach-requires c κs =
+    let s = c .before .before in
+    (s .pre .2, queued-start (s .args .v) (omega arith), omega arith)
 
 sub-result : tie.Need-sub-result
-sub-result c =
-    let p = c .before .before in
-    let a = p .before .before .args in
-    let one : 1 ≤ c .marked-of .result = some-counted _ _ (a .v) _ (p .before .before .pre .0) (p .reach .ensures .keeps (a .v) (getD-set-same (replicate 64 0) (a .v) 1 0 (omega arith))) (c .marked-of .ensures) in
-    omega arith
+sub-result c = omega (arith, c .reach .ensures .grows)
 
 returns : tie.Need-returns
-returns c g r n told = weight-is g r _ _ _ _ n (c .before .before .reach .ensures .is-reach g r told) (c .marked-of .ensures)
+returns c g r n told =
+    let s = c .before .before .before in
+    let done = c .reach .ensures in
+    let inside : s .args .v < g .graph .nodes = omega arith in
+    weight-is g r _ _ _ _ _ _ _ _ told _ (done .queued) (done .reaches g r _ told (λ l. omega (arith, n)) (marking-start (s .args .v) (omega arith) g r inside))
 
 pub weight-of-spec : {M : Type 1} → statement M
 weight-of-spec =
-    tie.close (tie.spec array-write-marks reach-requires marked-of-requires sub-result returns)
+    tie.close (tie.spec array-write-marks array-write-queue reach-requires sub-result returns)

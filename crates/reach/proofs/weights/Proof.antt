@@ -8,25 +8,33 @@ use borrow.Author.Needs.{needs}
 use Rattle.form.specs.Places.{retimingOf}
 use Rattle.legal.specs.Loop.{loopOf}
 use Rattle.reach.specs.Weight.{weight}
-use Rattle.reach.proofs.Laws.{filled, filled-none, filled-more, inside-form, weight-form, weights-form}
+use Rattle.reach.proofs.Laws.{filled, filled-none, filled-more, fits-form, weight-form, weights-form}
 use Rattle.reach.proofs.weights.Statement.{statement}
 use Rattle.reach.proofs.weights.Tie as tie
 
 abbrev Inv-loop : tie.InvT-loop
-Inv-loop form tights weights₀ v₀ v-end weights v =
+Inv-loop form tights out weights₀ v₀ v-end weights v =
     (v-end ≡ form .nodes) × (v ≤ form .nodes) × (length weights ≡ 64) × (weights ≡ filled (weight (loopOf form) (retimingOf form)) v)
 
 abbrev μ-loop : tie.MeasureT-loop
-μ-loop form tights weights₀ v₀ v-end weights v = v-end - v
+μ-loop form tights out weights₀ v₀ v-end weights v = v-end - v
 
 tights-of-requires : tie.Need-tights-of-requires Inv-loop μ-loop
 tights-of-requires c κs = search needs
+
+links-of-requires : tie.Need-links-of-requires Inv-loop μ-loop
+links-of-requires c κs =
+    let w = c .before .before .before .pre in
+    (w .edges, λ e l. omega (arith, w .nodes, w .edge e l))
 
 loop-holds : tie.Need-loop-holds Inv-loop μ-loop
 loop-holds c = (search needs, search needs, search needs, filled-none _)
 
 weight-of-requires : tie.Need-weight-of-requires Inv-loop μ-loop
-weight-of-requires c κs = (search needs, search needs, inside-form _ (c .before .before .before .before .before .before .before .pre))
+weight-of-requires c κs =
+    let s = c .before .before .before .before .before .before .before .before in
+    let w = s .before .before .before .before .pre in
+    (search needs, search needs, fits-form _ _ _ _ _ w (s .links-of .ensures) (λ e l. omega (arith, w .nodes, w .edge e l)))
 
 cast-weights : tie.Need-cast-weights Inv-loop μ-loop
 cast-weights c = search needs
@@ -42,12 +50,13 @@ loop-less c = search needs
 
 loop-again : tie.Need-loop-again Inv-loop μ-loop
 loop-again c =
-    let l = c .before .before .before .before .before .before .loop in
-    let start = c .before .before .before .before .before .before .before in (
+    let l = c .before .before .before .before .before .before .before .before .loop in
+    let s = c .before .before .before .before .before .before .before .before .before in
+    let start = s .before .before .before in (
       search needs,
       search needs,
       search needs,
-      filled-more _ (l .v) _ _ (omega arith) (weight-form _ (l .v) _ _ (start .tights-of .ensures) (c .weight-of .ensures)) (l .inv .3),
+      filled-more _ (l .v) _ _ (omega arith) (weight-form _ (l .v) _ _ _ _ (start .before .pre) (s .links-of .ensures) (start .tights-of .ensures) (c .weight-of .ensures)) (l .inv .3),
     )
 
 returns : tie.Need-returns Inv-loop μ-loop
@@ -60,6 +69,7 @@ weights-spec =
     Inv-loop
     μ-loop
     tights-of-requires
+    links-of-requires
     loop-holds
     weight-of-requires
     cast-weights

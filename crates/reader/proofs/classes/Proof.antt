@@ -1,34 +1,36 @@
+-- `reader::classes` meets its contract: each class is read in turn.
+-- Assumes nothing.
 use mathlib.Core.Path.{_≡_, refl, sym, _∙_}
-use Prim.Native.Nat.{ℕ, _≤_, _<_, _+_, _-_}
+use Prim.Native.Nat.{_≤_, _<_, _+_, _*_, _-_}
 use native.Mathlib.Omega.{arith}
+use lib.ListN.{length}
 use borrow.Author.Needs.{needs}
 use borrow.Author.Tests.{not-true, not-false}
+use Rattle.form.specs.declared.Form.{Form}
+use Rattle.reader.specs.Tables.{classStep, withClasses}
 use Rattle.reader.proofs.Laws.{Going, begin, turn, stop, finish}
-use Rattle.reader.specs.Tables.{classStep}
 use Rattle.reader.proofs.classes.Statement.{statement}
 use Rattle.reader.proofs.classes.Tie as tie
-use Rattle.reader.proofs.classes.Reads as reads
-use Rattle.reader.proofs.classes.Lts as lts
-use Rattle.answer.proofs.Refusal.is_fine.Reads as is-fine-reads
-use Rattle.reader.proofs.class_row.Reads as class-row-reads
 
 abbrev Inv-loop : tie.InvT-loop
-Inv-loop s form₀ next₀ classes i₀ form next i = Going (classStep s) classes (record { form = form₀; next = next₀ }) 3 i (record { form = form; next = next })
+Inv-loop s count class₀ next₀ end i₀ class next i =
+    (length class ≡ 4)
+    × (next .at ≤ next₀ .at + 3 * i)
+    × ((f : Form) → Going (classStep s) end (record { form = withClasses f class₀; next = next₀ }) 3 i (record { form = withClasses f class; next = next }))
 
 abbrev μ-loop : tie.MeasureT-loop
-μ-loop s form₀ next₀ classes i₀ form next i = classes - i
-
-cast-classes : tie.Need-cast-classes Inv-loop μ-loop
-cast-classes c = search needs
+μ-loop s count class₀ next₀ end i₀ class next i = end - i
 
 loop-holds : tie.Need-loop-holds Inv-loop μ-loop
-loop-holds c = begin _ _ _ _
+loop-holds c = (search needs, omega arith, λ f. begin _ _ _ _)
 
 is-fine-requires : tie.Need-is-fine-requires Inv-loop μ-loop
 is-fine-requires c κs = search needs
 
 returns : tie.Need-returns Inv-loop μ-loop
-returns c = stop _ _ _ _ _ _ (c .before .before .before .loop .inv) (c .before .before .loop-test .taken) (sym (c .before .is-fine .ensures) ∙ not-true _ (c .if1 .taken))
+returns c f =
+    let l = c .before .before .before .loop in
+    stop _ _ _ _ _ _ (l .inv .2 f) (c .before .before .loop-test .taken) (sym (c .before .is-fine .ensures) ∙ not-true _ (c .if1 .taken))
 
 class-row-requires : tie.Need-class-row-requires Inv-loop μ-loop
 class-row-requires c κs = search needs
@@ -36,8 +38,8 @@ class-row-requires c κs = search needs
 mul-class : tie.Need-mul-class Inv-loop μ-loop
 mul-class c = search needs
 
-element-set-from-class : tie.Need-element-set-from-class Inv-loop μ-loop
-element-set-from-class c = search needs
+array-set-from-class : tie.Need-array-set-from-class Inv-loop μ-loop
+array-set-from-class c = search needs
 
 add-i : tie.Need-add-i Inv-loop μ-loop
 add-i c = search needs
@@ -50,11 +52,14 @@ unfolding classStep
 loop-again c =
     let l = c .before .before .before .before .before .before in
     let t = c .before .before .before .before .before .loop-test in
-    let f = c .before .before .before .before in
-    turn _ _ _ _ _ _ (l .loop .inv) (t .taken) (sym (f .is-fine .ensures) ∙ not-false _ (c .before .before .before .if1 .left)) _ (rw (c .before .before .class-row .ensures .is)) refl refl refl refl (omega arith)
+    let q = c .before .before .before .before in (
+      search needs,
+      omega arith,
+      λ f. turn _ _ _ _ _ _ (l .loop .inv .2 f) (t .taken) (sym (q .is-fine .ensures) ∙ not-false _ (c .before .before .before .if1 .left)) _ (rw (c .before .before .class-row .ensures .is)) refl refl refl refl (omega (arith, c .before .before .class-row .ensures .near)),
+    )
 
 returns-2 : tie.Need-returns-2 Inv-loop μ-loop
-returns-2 c = finish _ _ _ _ _ _ (c .before .loop .inv) (c .loop-test .left)
+returns-2 c f = finish _ _ _ _ _ _ (c .before .loop .inv .2 f) (c .loop-test .left)
 
 pub classes-spec : {M : Type 1} → statement M
 classes-spec =
@@ -62,13 +67,12 @@ classes-spec =
     (tie.spec
     Inv-loop
     μ-loop
-    cast-classes
     loop-holds
     is-fine-requires
     returns
     class-row-requires
     mul-class
-    element-set-from-class
+    array-set-from-class
     add-i
     loop-less
     loop-again

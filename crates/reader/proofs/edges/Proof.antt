@@ -1,46 +1,50 @@
+-- `reader::edges` meets its contract: each edge is read in turn.
+-- Assumes nothing.
 use mathlib.Core.Path.{_≡_, refl, sym, _∙_}
-use Prim.Native.Nat.{ℕ, _≤_, _<_, _+_, _-_}
+use Prim.Native.Nat.{_≤_, _<_, _+_, _*_, _-_}
 use native.Mathlib.Omega.{arith}
+use lib.ListN.{length}
 use borrow.Author.Needs.{needs}
 use borrow.Author.Tests.{not-true, not-false}
+use Rattle.form.specs.declared.Form.{Form}
+use Rattle.reader.specs.Tables.{edgeStep, withEdges}
 use Rattle.reader.proofs.Laws.{Going, begin, turn, stop, finish}
-use Rattle.reader.specs.Tables.{edgeStep}
 use Rattle.reader.proofs.edges.Statement.{statement}
 use Rattle.reader.proofs.edges.Tie as tie
-use Rattle.reader.proofs.edges.Reads as reads
-use Rattle.reader.proofs.edges.Lts as lts
-use Rattle.answer.proofs.Refusal.is_fine.Reads as is-fine-reads
-use Rattle.reader.proofs.edge_row.Reads as edge-row-reads
 
 abbrev Inv-loop : tie.InvT-loop
-Inv-loop s form₀ next₀ nodes edges i₀ form next i = Going (edgeStep s) edges (record { form = form₀; next = next₀ }) 3 i (record { form = form; next = next })
+Inv-loop s nodes count from₀ to₀ delays₀ next₀ end i₀ from to delays next i =
+    (length from ≡ 256)
+    × (length to ≡ 256)
+    × (length delays ≡ 256)
+    × (next .at ≤ next₀ .at + 3 * i)
+    × ((f : Form) → f .nodes ≡ nodes → Going (edgeStep s) end (record { form = withEdges f from₀ to₀ delays₀; next = next₀ }) 3 i (record { form = withEdges f from to delays; next = next }))
 
 abbrev μ-loop : tie.MeasureT-loop
-μ-loop s form₀ next₀ nodes edges i₀ form next i = edges - i
-
-cast-edges : tie.Need-cast-edges Inv-loop μ-loop
-cast-edges c = search needs
+μ-loop s nodes count from₀ to₀ delays₀ next₀ end i₀ from to delays next i = end - i
 
 loop-holds : tie.Need-loop-holds Inv-loop μ-loop
-loop-holds c = begin _ _ _ _
+loop-holds c = (search needs, search needs, search needs, omega arith, λ f k. begin _ _ _ _)
 
 is-fine-requires : tie.Need-is-fine-requires Inv-loop μ-loop
 is-fine-requires c κs = search needs
 
 returns : tie.Need-returns Inv-loop μ-loop
-returns c = stop _ _ _ _ _ _ (c .before .before .before .loop .inv) (c .before .before .loop-test .taken) (sym (c .before .is-fine .ensures) ∙ not-true _ (c .if1 .taken))
+returns c f k =
+    let l = c .before .before .before .loop in
+    stop _ _ _ _ _ _ (l .inv .4 f k) (c .before .before .loop-test .taken) (sym (c .before .is-fine .ensures) ∙ not-true _ (c .if1 .taken))
 
 edge-row-requires : tie.Need-edge-row-requires Inv-loop μ-loop
 edge-row-requires c κs = search needs
 
-element-write-form : tie.Need-element-write-form Inv-loop μ-loop
-element-write-form c = search needs
+array-write-from : tie.Need-array-write-from Inv-loop μ-loop
+array-write-from c = search needs
 
-element-write-form-2 : tie.Need-element-write-form-2 Inv-loop μ-loop
-element-write-form-2 c = search needs
+array-write-to : tie.Need-array-write-to Inv-loop μ-loop
+array-write-to c = search needs
 
-element-write-form-3 : tie.Need-element-write-form-3 Inv-loop μ-loop
-element-write-form-3 c = search needs
+array-write-delays : tie.Need-array-write-delays Inv-loop μ-loop
+array-write-delays c = search needs
 
 add-i : tie.Need-add-i Inv-loop μ-loop
 add-i c = search needs
@@ -53,11 +57,16 @@ unfolding edgeStep
 loop-again c =
     let l = c .before .before .before .before .before .before in
     let t = c .before .before .before .before .before .loop-test in
-    let f = c .before .before .before .before in
-    turn _ _ _ _ _ _ (l .loop .inv) (t .taken) (sym (f .is-fine .ensures) ∙ not-false _ (c .before .before .before .if1 .left)) _ (rw (c .before .before .edge-row .ensures .is, c .before .before .before .before .before .before .loop .inv .nodes)) refl refl refl refl (omega arith)
+    let q = c .before .before .before .before in (
+      search needs,
+      search needs,
+      search needs,
+      omega arith,
+      λ f k. turn _ _ _ _ _ _ (l .loop .inv .4 f k) (t .taken) (sym (q .is-fine .ensures) ∙ not-false _ (c .before .before .before .if1 .left)) _ (rw (c .before .before .edge-row .ensures .is, k)) refl refl refl refl (omega (arith, c .before .before .edge-row .ensures .near)),
+    )
 
 returns-2 : tie.Need-returns-2 Inv-loop μ-loop
-returns-2 c = finish _ _ _ _ _ _ (c .before .loop .inv) (c .loop-test .left)
+returns-2 c f k = finish _ _ _ _ _ _ (c .before .loop .inv .4 f k) (c .loop-test .left)
 
 pub edges-spec : {M : Type 1} → statement M
 edges-spec =
@@ -65,14 +74,13 @@ edges-spec =
     (tie.spec
     Inv-loop
     μ-loop
-    cast-edges
     loop-holds
     is-fine-requires
     returns
     edge-row-requires
-    element-write-form
-    element-write-form-2
-    element-write-form-3
+    array-write-from
+    array-write-to
+    array-write-delays
     add-i
     loop-less
     loop-again

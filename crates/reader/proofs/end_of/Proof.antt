@@ -1,3 +1,5 @@
+-- `reader::end_of` meets its contract: each end of a record in turn.
+-- Assumes nothing.
 use mathlib.Core.Path.{sym, _∙_}
 use borrow.Author.Tests.{not-true, not-false}
 use Rattle.reader.specs.Reading.{retimingOffset}
@@ -5,10 +7,6 @@ use Rattle.reader.proofs.Laws.{end-refused, end-unnormalized, end-tail,
 use borrow.Author.Needs.{needs}
 use Rattle.reader.proofs.end_of.Statement.{statement}
 use Rattle.reader.proofs.end_of.Tie as tie
-use Rattle.reader.proofs.end_of.Reads as reads
-use Rattle.reader.proofs.end_of.Lts as lts
-use Rattle.answer.proofs.Refusal.is_fine.Reads as is-fine-reads
-use Rattle.reader.proofs.is_normalized.Reads as is-normalized-reads
 
 is-fine-requires : tie.Need-is-fine-requires
 is-fine-requires c κs = search needs
@@ -37,27 +35,33 @@ mul-before-2 c = search needs
 add-before-2 : tie.Need-add-before-2
 add-before-2 c = search needs
 
-cast-t10 : tie.Need-cast-t10
-cast-t10 c = search needs
+cast-t9 : tie.Need-cast-t9
+cast-t9 c = search needs
 
-mul-t14 : tie.Need-mul-t14
-mul-t14 c = search needs
+mul-t13 : tie.Need-mul-t13
+mul-t13 c = search needs
 
-add-t13 : tie.Need-add-t13
-add-t13 c = search needs
+add-t12 : tie.Need-add-t12
+add-t12 c = search needs
 
 returns-2 : tie.Need-returns-2
 unfolding retimingOffset
-returns-2 c = end-unnormalized _ _ (sym (c .before .before .before .before .before .before .before .is-fine .ensures) ∙ not-false _ (c .before .before .before .before .before .before .if1 .left)) (sym (c .before .before .before .before .is-normalized .ensures) ∙ not-true _ (c .before .before .before .if2 .taken))
+returns-2 c =
+    let r = c .before .before .before in
+    end-unnormalized _ _ (sym (r .before .before .before .is-fine .ensures) ∙ not-false _ (r .before .before .if1 .left)) (sym (r .before .is-normalized .ensures) ∙ not-true _ (r .if2 .taken))
 
-cast-t16 : tie.Need-cast-t16
-cast-t16 c = search needs
+cast-t15 : tie.Need-cast-t15
+cast-t15 c = search needs
 
 returns-3 : tie.Need-returns-3
-returns-3 c = end-tail _ _ (sym (c .before .before .before .before .before .before .before .is-fine .ensures) ∙ not-false _ (c .before .before .before .before .before .before .if1 .left)) (sym (c .before .before .before .before .is-normalized .ensures) ∙ not-false _ (c .before .before .before .if2 .left)) (c .before .if3 .taken)
+returns-3 c =
+    let r = c .before .before .before in
+    end-tail _ _ (sym (r .before .before .before .is-fine .ensures) ∙ not-false _ (r .before .before .if1 .left)) (sym (r .before .is-normalized .ensures) ∙ not-false _ (r .if2 .left)) (c .before .if3 .taken)
 
 returns-4 : tie.Need-returns-4
-returns-4 c = end-none _ _ (sym (c .before .before .before .before .before .before .is-fine .ensures) ∙ not-false _ (c .before .before .before .before .before .if1 .left)) (sym (c .before .before .before .is-normalized .ensures) ∙ not-false _ (c .before .before .if2 .left)) (c .if3 .left)
+returns-4 c =
+    let r = c .before .before in
+    end-none _ _ (sym (r .before .before .before .is-fine .ensures) ∙ not-false _ (r .before .before .if1 .left)) (sym (r .before .is-normalized .ensures) ∙ not-false _ (r .if2 .left)) (c .if3 .left)
 
 pub end-of-spec : {M : Type 1} → statement M
 end-of-spec =
@@ -72,10 +76,10 @@ end-of-spec =
     cast-before-2
     mul-before-2
     add-before-2
-    cast-t10
-    mul-t14
-    add-t13
+    cast-t9
+    mul-t13
+    add-t12
     returns-2
-    cast-t16
+    cast-t15
     returns-3
     returns-4)

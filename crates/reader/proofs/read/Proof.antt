@@ -1,20 +1,14 @@
-use mathlib.Core.Path.{sym, _∙_}
-use borrow.Author.Tests.{not-true, not-false}
-use Rattle.reader.proofs.Laws.{staged, read-refused, read-fine}
+-- `reader::read` meets its contract: the header, the four tables, and the end.
+-- Assumes nothing.
+use mathlib.Core.Path.{refl, sym, _∙_}
+use native.Mathlib.Omega.{arith}
 use borrow.Author.Needs.{needs}
+use borrow.Author.Tests.{not-true, not-false}
+use Rattle.form.specs.Places.{emptyForm, withCounts}
+use Rattle.reader.specs.Tables.{withClasses, withNodes}
+use Rattle.reader.proofs.Laws.{answered-refused, answered-fine}
 use Rattle.reader.proofs.read.Statement.{statement}
 use Rattle.reader.proofs.read.Tie as tie
-use Rattle.reader.proofs.read.Reads as reads
-use Rattle.reader.proofs.read.Lts as lts
-use Rattle.answer.proofs.Refusal.is_fine.Reads as is-fine-reads
-use Rattle.form.proofs.Form.empty.Reads as empty-reads
-use Rattle.reader.proofs.classes.Reads as classes-reads
-use Rattle.reader.proofs.edges.Reads as edges-reads
-use Rattle.reader.proofs.end_of.Reads as end-of-reads
-use Rattle.reader.proofs.header.Reads as header-reads
-use Rattle.reader.proofs.nodes.Reads as nodes-reads
-use Rattle.reader.proofs.scheduled_nodes.Reads as scheduled-nodes-reads
-use Rattle.reader.proofs.starts.Reads as starts-reads
 
 header-requires : tie.Need-header-requires
 header-requires c κs = search needs
@@ -23,31 +17,99 @@ classes-requires : tie.Need-classes-requires
 classes-requires c κs = search needs
 
 nodes-requires : tie.Need-nodes-requires
-nodes-requires c κs = search needs
+nodes-requires c κs =
+    let k = c .before in
+    let h = k .before .header .ensures in
+    (h .few-nodes, omega (arith, h .few-classes, h .near, k .classes .ensures emptyForm .near))
 
 edges-requires : tie.Need-edges-requires
-edges-requires c κs = search needs
+edges-requires c κs =
+    let v = c .before in
+    let k = v .before .before in
+    let h = k .before .header .ensures in (
+      h .few-edges,
+      omega (
+        arith,
+        h .few-classes,
+        h .few-nodes,
+        h .near,
+        k .classes .ensures emptyForm .near,
+        v .nodes .ensures (withCounts emptyForm _ 0 0 0) refl .near,
+      ),
+    )
 
 scheduled-nodes-requires : tie.Need-scheduled-nodes-requires
 scheduled-nodes-requires c κs = search needs
 
 starts-requires : tie.Need-starts-requires
-starts-requires c κs = search needs
+starts-requires c κs =
+    let e = c .before in
+    let v = e .before .before in
+    let k = v .before .before in
+    let h = k .before .header .ensures in (
+      omega (arith, c .scheduled-nodes .ensures .1, h .few-nodes),
+      h .short,
+      omega (
+        arith,
+        h .few-classes,
+        h .few-nodes,
+        h .few-edges,
+        h .near,
+        k .classes .ensures emptyForm .near,
+        v .nodes .ensures (withCounts emptyForm _ 0 0 0) refl .near,
+        e .edges .ensures (withCounts emptyForm 0 _ 0 0) refl .near,
+      ),
+    )
 
 end-of-requires : tie.Need-end-of-requires
-end-of-requires c κs = search needs
+end-of-requires c κs =
+    let x = c .before in
+    let e = x .before .before in
+    let v = e .before .before in
+    let k = v .before .before in
+    let h = k .before .header .ensures in (
+      h .few-nodes,
+      omega (
+        arith,
+        h .few-classes,
+        h .few-nodes,
+        h .few-edges,
+        h .near,
+        k .classes .ensures emptyForm .near,
+        v .nodes .ensures (withCounts emptyForm _ 0 0 0) refl .near,
+        e .edges .ensures (withCounts emptyForm 0 _ 0 0) refl .near,
+        x .before .scheduled-nodes .ensures .1,
+        x .starts .ensures (withNodes (withClasses (withCounts emptyForm 0 0 0 _) _) _) refl refl refl .near,
+      ),
+    )
 
 is-fine-requires : tie.Need-is-fine-requires
 is-fine-requires c κs = search needs
 
-empty-requires : tie.Need-empty-requires
-empty-requires c κs = search needs
+refused-requires : tie.Need-refused-requires
+refused-requires c κs = search needs
 
 returns : tie.Need-returns
-returns c = read-refused _ _ _ _ (staged _ _ _ _ _ _ _ (c .before .before .before .before .before .before .before .before .before .before .header .ensures .is) (c .before .before .before .before .before .before .before .before .before .classes .ensures .is) (c .before .before .before .before .before .before .before .before .nodes .ensures .is) (c .before .before .before .before .before .before .before .edges .ensures .is) (c .before .before .before .before .before .scheduled-nodes .ensures .0) (c .before .before .before .before .starts .ensures .is)) (c .before .before .before .end-of .ensures) (sym (c .before .before .is-fine .ensures) ∙ not-true _ (c .before .if1 .taken)) (c .empty .ensures)
+returns c =
+    let end = c .before .before .before in
+    let x = end .before .before in
+    let n = x .before in
+    let e = n .before in
+    let v = e .before .before in
+    let k = v .before .before in
+    answered-refused _ _ _ _ _ _ _ (k .before .header .ensures) (k .classes .ensures) (v .nodes .ensures) (e .edges .ensures) (n .scheduled-nodes .ensures .0) (x .starts .ensures) _ (end .end-of .ensures)
+    (sym (c .before .before .is-fine .ensures) ∙ not-true _ (c .before .if1 .taken)) _ (c .refused .ensures .0) (c .refused .ensures .1)
 
 returns-2 : tie.Need-returns-2
-returns-2 c = read-fine _ _ _ (staged _ _ _ _ _ _ _ (c .before .before .before .before .before .before .before .before .before .before .header .ensures .is) (c .before .before .before .before .before .before .before .before .before .classes .ensures .is) (c .before .before .before .before .before .before .before .before .nodes .ensures .is) (c .before .before .before .before .before .before .before .edges .ensures .is) (c .before .before .before .before .before .scheduled-nodes .ensures .0) (c .before .before .before .before .starts .ensures .is)) (c .before .before .before .end-of .ensures) (sym (c .before .before .is-fine .ensures) ∙ not-false _ (c .before .if1 .left))
+returns-2 c =
+    let end = c .before .before .before .before .before .before in
+    let x = end .before .before in
+    let n = x .before in
+    let e = n .before in
+    let v = e .before .before in
+    let k = v .before .before in
+    answered-fine _ _ _ _ _ _ _ (k .before .header .ensures) (k .classes .ensures) (v .nodes .ensures) (e .edges .ensures) (n .scheduled-nodes .ensures .0) (x .starts .ensures) _ (end .end-of .ensures)
+    (sym (c .before .before .before .before .before .is-fine .ensures) ∙ not-false _ (c .before .before .before .before .if1 .left))
 
 pub read-spec : {M : Type 1} → statement M
 read-spec =
@@ -61,6 +123,6 @@ read-spec =
     starts-requires
     end-of-requires
     is-fine-requires
-    empty-requires
+    refused-requires
     returns
     returns-2)

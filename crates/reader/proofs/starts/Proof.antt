@@ -1,38 +1,43 @@
+-- `reader::starts` meets its contract: each start and retiming is read in turn.
+-- Assumes nothing.
 use mathlib.Core.Path.{_≡_, refl, sym, _∙_}
-use Prim.Native.Nat.{ℕ, _≤_, _<_, _+_, _-_}
+use Prim.Native.Nat.{_≤_, _<_, _+_, _*_, _-_}
 use native.Mathlib.Omega.{arith}
+use lib.ListN.{length}
 use borrow.Author.Needs.{needs}
 use borrow.Author.Tests.{not-true, not-false}
+use Rattle.form.specs.declared.Form.{Form}
+use Rattle.reader.specs.Tables.{startStep, withStarts}
 use Rattle.reader.proofs.Laws.{Going, begin, turn, stop, finish}
-use Rattle.reader.specs.Tables.{startStep}
 use Rattle.reader.proofs.starts.Statement.{statement}
 use Rattle.reader.proofs.starts.Tie as tie
-use Rattle.reader.proofs.starts.Reads as reads
-use Rattle.reader.proofs.starts.Lts as lts
-use Rattle.answer.proofs.Refusal.is_fine.Reads as is-fine-reads
-use Rattle.reader.proofs.latency_of.Reads as latency-of-reads
-use Rattle.reader.proofs.start_row.Reads as start-row-reads
 
 abbrev Inv-loop : tie.InvT-loop
-Inv-loop s nodes form₀ next₀ length i₀ form next i = Going (startStep s) nodes (record { form = form₀; next = next₀ }) 3 i (record { form = form; next = next })
+Inv-loop s l class count node start₀ retiming₀ next₀ i₀ start retiming next i =
+    (length start ≡ 64)
+    × (length retiming ≡ 64)
+    × (next .at ≤ next₀ .at + 3 * i)
+    × ((f : Form) → f .length ≡ l → f .class ≡ class → f .node ≡ node → Going (startStep s) count (record { form = withStarts f start₀ retiming₀; next = next₀ }) 3 i (record { form = withStarts f start retiming; next = next }))
 
 abbrev μ-loop : tie.MeasureT-loop
-μ-loop s nodes form₀ next₀ length i₀ form next i = nodes - i
+μ-loop s l class count node start₀ retiming₀ next₀ i₀ start retiming next i = count - i
 
 loop-holds : tie.Need-loop-holds Inv-loop μ-loop
-loop-holds c = begin _ _ _ _
+loop-holds c = (search needs, search needs, omega arith, λ f k m n. begin _ _ _ _)
 
 is-fine-requires : tie.Need-is-fine-requires Inv-loop μ-loop
 is-fine-requires c κs = search needs
 
 returns : tie.Need-returns Inv-loop μ-loop
-returns c = stop _ _ _ _ _ _ (c .before .before .before .loop .inv) (c .before .before .loop-test .taken) (sym (c .before .is-fine .ensures) ∙ not-true _ (c .if1 .taken))
+returns c f k m n =
+    let l = c .before .before .before .loop in
+    stop _ _ _ _ _ _ (l .inv .3 f k m n) (c .before .before .loop-test .taken) (sym (c .before .is-fine .ensures) ∙ not-true _ (c .if1 .taken))
 
-mul-node : tie.Need-mul-node Inv-loop μ-loop
-mul-node c = search needs
+mul-place : tie.Need-mul-place Inv-loop μ-loop
+mul-place c = search needs
 
-element-copy-out-node : tie.Need-element-copy-out-node Inv-loop μ-loop
-element-copy-out-node c = search needs
+array-copy-out-place : tie.Need-array-copy-out-place Inv-loop μ-loop
+array-copy-out-place c = search needs
 
 latency-of-requires : tie.Need-latency-of-requires Inv-loop μ-loop
 latency-of-requires c κs = search needs
@@ -43,11 +48,11 @@ start-row-requires c κs = search needs
 mul-start : tie.Need-mul-start Inv-loop μ-loop
 mul-start c = search needs
 
-element-set-from-start : tie.Need-element-set-from-start Inv-loop μ-loop
-element-set-from-start c = search needs
+array-set-from-start : tie.Need-array-set-from-start Inv-loop μ-loop
+array-set-from-start c = search needs
 
-element-write-form : tie.Need-element-write-form Inv-loop μ-loop
-element-write-form c = search needs
+array-write-retiming : tie.Need-array-write-retiming Inv-loop μ-loop
+array-write-retiming c = search needs
 
 add-i : tie.Need-add-i Inv-loop μ-loop
 add-i c = search needs
@@ -58,13 +63,17 @@ loop-less c = search needs
 loop-again : tie.Need-loop-again Inv-loop μ-loop
 unfolding startStep
 loop-again c =
-    let l = c .before .before .before .before .before .before .before .before .before in
-    let t = c .before .before .before .before .before .before .before .before .loop-test in
-    let f = c .before .before .before .before .before .before .before in
-    turn _ _ _ _ _ _ (l .loop .inv) (t .taken) (sym (f .is-fine .ensures) ∙ not-false _ (c .before .before .before .before .before .before .if1 .left)) _ (rw (c .before .before .start-row .ensures .is, c .before .before .before .latency-of .ensures, c .before .before .before .before .before .before .before .before .before .loop .inv .length)) refl refl refl refl (omega arith)
+    let l = c .before .before .before .before .before .before .before .before in
+    let t = c .before .before .before .before .before .before .before .loop-test in
+    let q = c .before .before .before .before .before .before in (
+      search needs,
+      search needs,
+      omega arith,
+      λ f k m n. turn _ _ _ _ _ _ (l .loop .inv .3 f k m n) (t .taken) (sym (q .is-fine .ensures) ∙ not-false _ (c .before .before .before .before .before .if1 .left)) _ (rw (c .before .before .start-row .ensures .is, c .before .before .before .latency-of .ensures, k, m, n)) refl refl refl refl (omega (arith, c .before .before .start-row .ensures .near)),
+    )
 
 returns-2 : tie.Need-returns-2 Inv-loop μ-loop
-returns-2 c = finish _ _ _ _ _ _ (c .before .loop .inv) (c .loop-test .left)
+returns-2 c f k m n = finish _ _ _ _ _ _ (c .before .loop .inv .3 f k m n) (c .loop-test .left)
 
 pub starts-spec : {M : Type 1} → statement M
 starts-spec =
@@ -75,13 +84,13 @@ starts-spec =
     loop-holds
     is-fine-requires
     returns
-    mul-node
-    element-copy-out-node
+    mul-place
+    array-copy-out-place
     latency-of-requires
     start-row-requires
     mul-start
-    element-set-from-start
-    element-write-form
+    array-set-from-start
+    array-write-retiming
     add-i
     loop-less
     loop-again

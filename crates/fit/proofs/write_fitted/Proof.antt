@@ -1,0 +1,22 @@
+-- `fit::write_fitted` meets its contract: the form is written with its retiming replaced.
+-- Assumes nothing.
+use borrow.Author.Needs.{needs}
+use Rattle.fit.specs.Retimed.{withRetiming}
+use Rattle.fit.specs.Planned.{fittedAnswer}
+use Rattle.fit.proofs.write_fitted.Statement.{statement}
+use Rattle.fit.proofs.write_fitted.Tie as tie
+
+write-requires : tie.Need-write-requires
+write-requires c κs = search needs
+
+same-length : tie.Need-same-length
+same-length c = search needs
+
+returns : tie.Need-returns
+unfolding fittedAnswer withRetiming
+returns c =
+    let w = c .before .before .before .write .ensures in
+    (rw (w .0), w .1)
+
+pub write-fitted-spec : {M : Type 1} → statement M
+write-fitted-spec = tie.close (tie.spec write-requires same-length returns)

@@ -1,0 +1,84 @@
+-- `links::links_of` meets its contract: the edges from e on are linked.
+-- Assumes nothing.
+use mathlib.Core.Path.{_≡_, subst}
+use Prim.Native.Nat.{_+_, _-_, _≤_, _<_}
+use native.Mathlib.Omega.{arith}
+use lib.ListN.{getD}
+use borrow.Author.Needs.{needs}
+use Rattle.links.proofs.Laws.{Linked, linked-none, linked-more, linked-all}
+use Rattle.links.proofs.links_of.Statement.{statement}
+use Rattle.links.proofs.links_of.Tie as tie
+
+abbrev Inv-loop : tie.InvT-loop
+Inv-loop keys edges first₀ next₀ e₀ first next e = (e ≤ edges) × Linked (λ d. getD keys d 0) edges e first next
+
+abbrev μ-loop : tie.MeasureT-loop
+μ-loop keys edges first₀ next₀ e₀ first next e = e
+
+first-blank-requires : tie.Need-first-blank-requires Inv-loop μ-loop
+first-blank-requires c κs = search needs
+
+next-blank-requires : tie.Need-next-blank-requires Inv-loop μ-loop
+next-blank-requires c κs = search needs
+
+loop-holds : tie.Need-loop-holds Inv-loop μ-loop
+loop-holds c =
+    let f = c .before .first-blank .ensures in
+    (omega arith, linked-none _ _ _ _ (f .0) (c .next-blank .ensures) (f .1))
+
+sub-e : tie.Need-sub-e Inv-loop μ-loop
+sub-e c = search needs
+
+element-copy-out-key : tie.Need-element-copy-out-key Inv-loop μ-loop
+element-copy-out-key c = search needs
+
+key-in : (c : tie.After-key Inv-loop μ-loop) → getD (c .before .before .before .before .before .args .keys .now) (c .before .before .loop .e - 1) 0 < 64
+key-in c = c .before .before .before .before .before .pre .1 (c .before .before .loop .e - 1) (omega arith)
+
+cast-key : tie.Need-cast-key Inv-loop μ-loop
+cast-key c = omega (arith, key-in c)
+
+mul-next : tie.Need-mul-next Inv-loop μ-loop
+mul-next c = omega (arith, key-in c)
+
+array-read-next : tie.Need-array-read-next Inv-loop μ-loop
+array-read-next c = key-in c
+
+mul-next-2 : tie.Need-mul-next-2 Inv-loop μ-loop
+mul-next-2 c = omega (arith, key-in c)
+
+array-write-next : tie.Need-array-write-next Inv-loop μ-loop
+array-write-next c = omega (arith, key-in c)
+
+cast-first : tie.Need-cast-first Inv-loop μ-loop
+cast-first c = search needs
+
+mul-first : tie.Need-mul-first Inv-loop μ-loop
+mul-first c = omega (arith, key-in c)
+
+array-write-first : tie.Need-array-write-first Inv-loop μ-loop
+array-write-first c = key-in c
+
+loop-less : tie.Need-loop-less Inv-loop μ-loop
+loop-less c = search needs
+
+loop-again : tie.Need-loop-again Inv-loop μ-loop
+loop-again c =
+    let l = c .before .before .loop in
+    let a = c .before .before .before .before .before .args in
+    let down : l .e ≡ l .e - 1 + 1 = omega arith in (
+      omega arith,
+      linked-more (λ d. getD (a .keys .now) d 0) (a .edges) (l .e - 1) (l .first) (l .next) (omega arith) (omega arith) (key-in c)
+          (subst (λ x. Linked (λ d. getD (a .keys .now) d 0) (a .edges) x (l .first) (l .next)) down (l .inv .1)),
+    )
+
+returns : tie.Need-returns Inv-loop μ-loop
+returns c =
+    let l = c .before .loop in
+    let a = c .before .before .before .before .args in
+    let end : l .e ≡ 0 = omega arith in
+    linked-all (λ d. getD (a .keys .now) d 0) (a .edges) (l .first) (l .next)
+    (subst (λ x. Linked (λ d. getD (a .keys .now) d 0) (a .edges) x (l .first) (l .next)) end (l .inv .1))
+
+pub links-of-spec : {M : Type 1} → statement M
+links-of-spec = tie.close (tie.spec Inv-loop μ-loop first-blank-requires next-blank-requires loop-holds sub-e element-copy-out-key cast-key mul-next array-read-next mul-next-2 array-write-next cast-first mul-first array-write-first loop-less loop-again returns)

@@ -1,0 +1,92 @@
+-- Laws that the proofs of this crate share: buffers cleared, steps of bodies, the depth, the nodes placed in order.
+-- Assumes nothing.
+use mathlib.Core.Path.{_≡_, refl, sym}
+use mathlib.Core.List.{List, map}
+use mathlib.Core.Bool.{true, false}
+use mathlib.Core.Logic.{_≢_}
+use Prim.Native.Nat.{ℕ, _+_, _-_, _*_, _≤_, _<_, max}
+use native.Mathlib.Omega.{arith}
+use native.Mathlib.Numerals.{add-one}
+use native.Mathlib.Nat.{mul-le-mul}
+use borrow.Author.Needs.{needs}
+use borrow.Author.Tests.{eq-eqb, ne-eqb, le-leb, lt-leb, le-ltb, lt-ltb}
+use lib.Dec.{ltb}
+use lib.ListN.{getD, set}
+use Rattle.lists.specs.Span.{span}
+use Rattle.lists.specs.Fold.{top}
+use Rattle.lists.specs.Sums.{top-none, top-last, top-under}
+use Rattle.form.specs.declared.Form.{Form}
+use Rattle.form.specs.Places.{retimingOf}
+use Rattle.form.specs.Ranges.{WellFormed}
+use Rattle.legal.specs.Loop.{graphOf, loopOf, pairOf}
+use Rattle.machine.specs.Run.{depth, cleared}
+use Rattle.run.specs.Tables.{startIn}
+use Rattle.run.specs.Late.{missing}
+
+pub ruleset tests = (needs, eq-eqb, ne-eqb, le-leb, lt-leb, le-ltb, lt-ltb)
+
+-- ---- buffers cleared
+
+pub cleared-none : (xs : List ℕ) → xs ≡ cleared 0 xs
+unfolding cleared
+cleared-none xs = refl
+
+pub cleared-more : (i : ℕ) (xs ys : List ℕ) → ys ≡ cleared i xs → set ys i 0 ≡ cleared (i + 1) xs
+unfolding cleared
+cleared-more i xs ys e = rw (add-one i, e)
+
+pub cleared-all : (i n : ℕ) (xs ys : List ℕ) → ys ≡ cleared i xs → i ≡ n → ys ≡ cleared n xs
+cleared-all i n xs ys e q = rw (← q) e
+
+-- ---- steps
+
+pub body-steps : (j l : ℕ) → j ≤ 65598 → l ≤ 512 → j * l ≤ 33586176
+body-steps j l a b = mul-le-mul a b
+
+pub places-small : (k n : ℕ) → k ≤ 65535 → n ≤ 255 → k * n ≤ 16711425
+places-small k n a b = mul-le-mul a b
+
+-- every node starts in the body
+pub starts-in : (f : Form) → WellFormed f → f .length ≢ 0 → (v : ℕ) → v < f .nodes → (1 ≤ startIn (f .start) v) × (startIn (f .start) v < 1 + f .length)
+starts-in f w some v l =
+    let s = w .schedule some .starts v l in
+    (s .begins, omega (arith, s .ends, w .class _ (w .node v l) .latency .0))
+
+pub start-few : (f : Form) → WellFormed f → f .length ≢ 0 → (v : ℕ) → v < f .nodes → startIn (f .start) v ≤ 512
+start-few f w some v l = omega (arith, starts-in f w some v l .1, w .length)
+
+-- ---- what an edge hands over
+
+module _ (nodes : ℕ) (finish : List ℕ) (i t u d : ℕ) where
+  pub missing-before : i < d → false ≡ missing nodes finish i t u d
+  unfolding missing
+  missing-before l = rw (lt-ltb i d l)
+
+  pub missing-none : d ≤ i → getD finish ((i - d) * nodes + u) 0 ≡ 0 → true ≡ missing nodes finish i t u d
+  unfolding missing
+  missing-none l e = rw (le-ltb i d l, eq-eqb (getD finish ((i - d) * nodes + u) 0) 0 e)
+
+  pub missing-some : d ≤ i → getD finish ((i - d) * nodes + u) 0 ≢ 0 → ltb t (getD finish ((i - d) * nodes + u) 0) ≡ missing nodes finish i t u d
+  unfolding missing
+  missing-some l e = rw (le-ltb i d l, ne-eqb (getD finish ((i - d) * nodes + u) 0) 0 e)
+
+-- ---- the depth
+
+module _ (f : Form) where
+  -- the largest of the first v retimings
+  unfoldable pub depthTo : ℕ → ℕ
+  depthTo v = top (map (retimingOf f) (span 0 v))
+
+  pub depth-none : 0 ≡ depthTo 0
+  unfolding depthTo
+  depth-none = sym (top-none (retimingOf f) 0)
+
+  pub depth-more : (v d r : ℕ) → d ≡ depthTo v → r ≡ max d (retimingOf f v) → r ≡ depthTo (v + 1)
+  unfolding depthTo
+  depth-more v d r x y = rw (add-one, top-last, ← x) y
+
+  pub depth-whole : (v d : ℕ) → WellFormed f → f .length ≢ 0 → d ≡ depthTo v → v ≡ f .nodes → (d ≡ depth (loopOf f) (pairOf f)) × (d ≤ 63)
+  unfolding depthTo depth loopOf graphOf pairOf
+  depth-whole v d w some x h =
+      let e : d ≡ top (map (retimingOf f) (span 0 (f .nodes))) = rw h at x in
+      (e, omega (arith, top-under (retimingOf f) 63 (f .nodes) (λ u l. w .schedule some .starts u l .retiming)))

@@ -1,0 +1,75 @@
+-- `words::put_edges` meets its contract: the rows of the edges before i are laid.
+-- Assumes nothing.
+use Prim.Native.Nat.{_+_, _*_, _-_, _≤_}
+use native.Mathlib.Omega.{arith}
+use borrow.Author.Needs.{needs}
+use Rattle.writer.proofs.Laws.{nothing, row-more, same-long}
+use Rattle.writer.specs.Laid.{Laid}
+use Rattle.writer.specs.Layout.{rows}
+use Rattle.words.specs.Refusals.{edgeText}
+use Rattle.words.proofs.Laws.{edges-whole}
+use Rattle.words.proofs.put_edges.Statement.{statement}
+use Rattle.words.proofs.put_edges.Tie as tie
+
+abbrev Inv-loop : tie.InvT-loop
+Inv-loop out₀ at answer count next₀ i₀ out next i = (i ≤ 64) × (next ≤ at + 11 * i) × Laid out₀ at (rows (edgeText answer) i) out next × (i ≤ count)
+
+abbrev μ-loop : tie.MeasureT-loop
+μ-loop out₀ at answer count next₀ i₀ out next i = count - i
+
+element-copy-out-count-of : tie.Need-element-copy-out-count-of Inv-loop μ-loop
+element-copy-out-count-of c = search needs
+
+count-of-requires : tie.Need-count-of-requires Inv-loop μ-loop
+count-of-requires c κs = search needs
+
+loop-holds : tie.Need-loop-holds Inv-loop μ-loop
+unfolding rows
+loop-holds c = (search needs, omega arith, nothing _ _, search needs)
+
+add-put-edge : tie.Need-add-put-edge Inv-loop μ-loop
+add-put-edge c = search needs
+
+mul-put-edge : tie.Need-mul-put-edge Inv-loop μ-loop
+mul-put-edge c = search needs
+
+element-copy-out-put-edge : tie.Need-element-copy-out-put-edge Inv-loop μ-loop
+element-copy-out-put-edge c = search needs
+
+put-edge-requires : tie.Need-put-edge-requires Inv-loop μ-loop
+put-edge-requires c κs = search needs
+
+add-i : tie.Need-add-i Inv-loop μ-loop
+add-i c = search needs
+
+loop-less : tie.Need-loop-less Inv-loop μ-loop
+loop-less c = search needs
+
+loop-again : tie.Need-loop-again Inv-loop μ-loop
+unfolding edgeText
+loop-again c = (omega arith, omega arith, row-more _ _ _ _ _ _ _ _ (c .before .before .before .before .before .before .loop .inv .2) (c .before .before .put-edge .ensures .1), omega arith)
+
+same-length : tie.Need-same-length Inv-loop μ-loop
+same-length c = same-long _ _ _ _ _ (c .before .loop .inv .2)
+
+returns : tie.Need-returns Inv-loop μ-loop
+returns c = (omega arith, edges-whole _ _ _ _ _ _ (c .before .loop .inv .2) (omega arith))
+
+pub put-edges-spec : {M : Type 1} → statement M
+put-edges-spec =
+    tie.close
+    (tie.spec
+    Inv-loop
+    μ-loop
+    element-copy-out-count-of
+    count-of-requires
+    loop-holds
+    add-put-edge
+    mul-put-edge
+    element-copy-out-put-edge
+    put-edge-requires
+    add-i
+    loop-less
+    loop-again
+    same-length
+    returns)
