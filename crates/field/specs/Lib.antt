@@ -1,4 +1,3 @@
 pub mod Number
 pub mod Taking
 pub mod Laws
-pub mod Widths

@@ -2,8 +2,8 @@
 -- Assumes nothing.
 use mathlib.Core.Path.{_≡_, refl, ap, sym, _∙_}
 use mathlib.Core.List.{List, [], _∷_, _++_}
-use Prim.Native.Nat.{ℕ, zero, suc, _+_, _*_, _/_, _%_, _^_, _≤_, _<_}
-use native.Mathlib.Nat.{pow-succ', add-suc, add-zero}
+use Prim.Native.Nat.{ℕ, zero, suc, _+_, _-_, _*_, _/_, _%_, _^_, _≤_, _<_}
+use native.Mathlib.Nat.{pow-succ', pow-le-pow-right, add-suc, add-zero}
 use native.Mathlib.Omega.{arith}
 use lib.ListN.{length, getD, take, drop}
 use lib.Seq.{getD-take, getD-drop, drop-cons, drop-append-seam}
@@ -26,6 +26,18 @@ pub number-lt : (s : List ℕ) → Bytes s → (width at : ℕ) → numberAt wid
 unfolding numberAt
 number-lt s b zero at = omega arith
 number-lt s b (suc width) at = omega (arith, b at, number-lt s b width (suc at), pow-succ' 256 width)
+
+pub number-small : (s : List ℕ) → Bytes s → (width most at : ℕ) → width ≤ most → numberAt width s at < 256 ^ most
+number-small s b width most at h = omega (arith, number-lt s b width at, pow-le-pow-right {n = 256} (omega arith) h)
+
+-- one byte more in front of those from `left` on
+pub number-more : (s : List ℕ) (width left at value byte : ℕ) → 0 < left → left ≤ width → value ≡ numberAt (width - left) s (at + left)
+    → byte ≡ getD s (at + (left - 1)) 0 → value * 256 + byte ≡ numberAt (width - (left - 1)) s (at + (left - 1))
+unfolding numberAt
+number-more s width left at value byte p h e b =
+    let n : width - (left - 1) ≡ suc (width - left) = omega arith in
+    let a : suc (at + (left - 1)) ≡ at + left = omega arith in
+    rw (n, numberAt, a, ← e) (omega (arith, b))
 
 pub bytes-length : (width x : ℕ) → length (bytesOf width x) ≡ width
 unfolding bytesOf

@@ -30,34 +30,19 @@ pub struct Taken {
     pub next: Cursor,
 }
 
-// The number in three bytes: two, and the highest.
-fn three_at(s: &[u8], at: usize) -> u32
-    requires { ⌜ at + 3 ≤ length (now s) ⌝ }
-    ensures { λ r. ⌜ r ≡ numberAt 3 (now (s .entry)) at ⌝ }
-{
-    let low = thin::pair_from(s, at) as u32;
-    let high = thin::byte_from(s, at + 2) as u32;
-    low + 65536 * high
-}
-
-// The number in the `width` bytes from `at` on, the lowest byte first. The bytes are read by the thin reader.
+// The number in the `width` bytes from `at` on, the lowest byte first. Each byte is read by the thin reader.
 pub fn number_at(s: &[u8], at: usize, width: usize) -> u32
     requires { ⌜ (at + width ≤ length (now s)) × (width ≤ 4) ⌝ }
     ensures { λ r. ⌜ r ≡ numberAt width (now (s .entry)) at ⌝ }
 {
-    if width == 1 {
-        return thin::byte_from(s, at) as u32;
+    let mut value: u32 = 0;
+    let mut left = width;
+    while 0 < left {
+        left -= 1;
+        let byte = thin::byte_from(s, at + left) as u32;
+        value = value * 256 + byte;
     }
-    if width == 2 {
-        return thin::pair_from(s, at) as u32;
-    }
-    if width == 3 {
-        return three_at(s, at);
-    }
-    if width == 4 {
-        return thin::word_from(s, at);
-    }
-    0
+    value
 }
 
 // The refusal of a field that is out of range.

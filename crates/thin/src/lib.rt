@@ -98,19 +98,3 @@ pub fn byte_from(s: &[u8], at: usize) -> u8
 {
     byte(moved(new(s), at))
 }
-
-// The number in two bytes from a place of a slice on, by a reader.
-pub fn pair_from(s: &[u8], at: usize) -> u16
-    requires { ⌜ at + 2 ≤ length (now s) ⌝ }
-    ensures { λ b. ⌜ b ≡ pairAt (now (s .entry)) at ⌝ }
-{
-    pair(moved(new(s), at))
-}
-
-// The number in four bytes from a place of a slice on, by a reader.
-pub fn word_from(s: &[u8], at: usize) -> u32
-    requires { ⌜ at + 4 ≤ length (now s) ⌝ }
-    ensures { λ b. ⌜ b ≡ wordAt (now (s .entry)) at ⌝ }
-{
-    word(moved(new(s), at))
-}

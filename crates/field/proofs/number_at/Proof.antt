@@ -1,62 +1,73 @@
--- `field::number_at` meets its contract: each width is read as its bytes stand.
+-- `field::number_at` meets its contract: what is read so far is the number of the bytes from `left` on.
 -- Assumes nothing.
+use mathlib.Core.Path.{_≡_}
+use Prim.Native.Nat.{_≤_, _+_, _-_}
 use native.Mathlib.Omega.{arith}
-use Rattle.field.specs.Widths.{of-width, number-none, number-byte, number-pair, number-word}
 use borrow.Author.Needs.{needs}
+use Rattle.field.specs.Number.{numberAt, number-small, number-more}
 use Rattle.field.proofs.number_at.Statement.{statement}
 use Rattle.field.proofs.number_at.Tie as tie
-use Rattle.field.proofs.number_at.Reads as reads
-use Rattle.field.proofs.number_at.Lts as lts
-use Rattle.field.proofs.three_at.Reads as three-at-reads
-use Rattle.thin.proofs.byte_from.Reads as byte-from-reads
-use Rattle.thin.proofs.pair_from.Reads as pair-from-reads
-use Rattle.thin.proofs.word_from.Reads as word-from-reads
 
-byte-from-requires : tie.Need-byte-from-requires
+abbrev Inv-loop : tie.InvT-loop
+Inv-loop s at width value₀ left₀ value left = (left ≤ width) × (value ≡ numberAt (width - left) s (at + left))
+
+abbrev μ-loop : tie.MeasureT-loop
+μ-loop s at width value₀ left₀ value left = left
+
+loop-holds : tie.Need-loop-holds Inv-loop μ-loop
+unfolding numberAt
+loop-holds c = (search needs, let z : c .before .args .width - c .before .args .width ≡ 0 = omega arith in rw (z, numberAt))
+
+sub-left : tie.Need-sub-left Inv-loop μ-loop
+sub-left c = search needs
+
+add-byte-from : tie.Need-add-byte-from Inv-loop μ-loop
+add-byte-from c = search needs
+
+byte-from-requires : tie.Need-byte-from-requires Inv-loop μ-loop
 byte-from-requires c κs = search needs
 
-cast-result : tie.Need-cast-result
-cast-result c = search needs
+cast-byte : tie.Need-cast-byte Inv-loop μ-loop
+cast-byte c = search needs
 
-returns : tie.Need-returns
-returns c = of-width _ _ _ 1 _ (omega arith) (omega (arith, number-byte (c .before .before .before .args .s .now) (c .before .before .before .args .at)))
+mul-value : tie.Need-mul-value Inv-loop μ-loop
+mul-value c =
+    let b = c .before .before in
+    omega (arith, number-small (b .before .before .args .s .now) (λ i. b .before .shared-slice-known .given i .fits) (b .before .before .args .width - b .loop .left) 3 (b .before .before .args .at + b .loop .left) (omega arith))
 
-pair-from-requires : tie.Need-pair-from-requires
-pair-from-requires c κs = search needs
+add-value : tie.Need-add-value Inv-loop μ-loop
+add-value c =
+    let b = c .before .before in
+    omega (arith, number-small (b .before .before .args .s .now) (λ i. b .before .shared-slice-known .given i .fits) (b .before .before .args .width - b .loop .left) 3 (b .before .before .args .at + b .loop .left) (omega arith))
 
-cast-result-2 : tie.Need-cast-result-2
-cast-result-2 c = search needs
+loop-less : tie.Need-loop-less Inv-loop μ-loop
+loop-less c = search needs
 
-returns-2 : tie.Need-returns-2
-returns-2 c = of-width _ _ _ 2 _ (omega arith) (omega (arith, number-pair (c .before .before .before .before .args .s .now) (c .before .before .before .before .args .at)))
+loop-again : tie.Need-loop-again Inv-loop μ-loop
+loop-again c =
+    let b = c .before .before in
+    (search needs, number-more (b .before .before .args .s .now) (b .before .before .args .width) (b .loop .left) (b .before .before .args .at) (b .loop .value) (c .byte-from .result) (omega arith) (omega arith) (b .loop .inv .1) (c .byte-from .ensures))
 
-three-at-requires : tie.Need-three-at-requires
-three-at-requires c κs = search needs
-
-returns-3 : tie.Need-returns-3
-returns-3 c = of-width _ _ _ 3 _ (omega arith) (c .three-at .ensures)
-
-word-from-requires : tie.Need-word-from-requires
-word-from-requires c κs = search needs
-
-returns-4 : tie.Need-returns-4
-returns-4 c = of-width _ _ _ 4 _ (omega arith) (omega (arith, number-word (c .before .before .before .before .before .before .args .s .now) (c .before .before .before .before .before .before .args .at)))
-
-returns-5 : tie.Need-returns-5
-returns-5 c = of-width _ _ _ 0 _ (omega arith) (omega (arith, number-none (c .before .before .before .before .before .args .s .now) (c .before .before .before .before .before .args .at)))
+returns : tie.Need-returns Inv-loop μ-loop
+returns c =
+    let z : c .before .loop .left ≡ 0 = omega arith in
+    let w : c .before .before .before .args .width - c .before .loop .left ≡ c .before .before .before .args .width = omega arith in
+    let a : c .before .before .before .args .at + c .before .loop .left ≡ c .before .before .before .args .at = omega arith in
+    rw (w, a) at (c .before .loop .inv .1)
 
 pub number-at-spec : {M : Type 1} → statement M
 number-at-spec =
     tie.close
     (tie.spec
+    Inv-loop
+    μ-loop
+    loop-holds
+    sub-left
+    add-byte-from
     byte-from-requires
-    cast-result
-    returns
-    pair-from-requires
-    cast-result-2
-    returns-2
-    three-at-requires
-    returns-3
-    word-from-requires
-    returns-4
-    returns-5)
+    cast-byte
+    mul-value
+    add-value
+    loop-less
+    loop-again
+    returns)
