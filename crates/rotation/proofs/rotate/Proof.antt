@@ -5,7 +5,7 @@ use native.Mathlib.Omega.{arith}
 use borrow.Author.Needs.{needs}
 use borrow.Author.Tests.{not-true, not-false}
 use Rattle.rotation.specs.Scheduling.{rotateAsked, rotatedBy, unturned}
-use Rattle.rotation.proofs.Entries.{entry-planned}
+use Rattle.rotation.proofs.Entries.{plan-taken, entry-planned}
 use Rattle.rotation.proofs.Rotates.{record-good, rotate-unjudged, rotate-writes}
 use Rattle.rotation.proofs.rotate.Statement.{statement}
 use Rattle.rotation.proofs.rotate.Tie as tie
@@ -31,7 +31,16 @@ rotate-plan-requires c κs =
     (g .1, g .2)
 
 write-plan-requires : tie.Need-write-plan-requires
-write-plan-requires c κs = search needs
+write-plan-requires c κs =
+    let p = c .before in
+    let r = p .before .before in
+    let f = r .before in
+    let j = f .before .before .before in
+    let a = j .before .before .before .args in
+    let g = record-good (a .«record» .now) (λ i. omega (arith, j .before .before .shared-slice-known .given i)) _ (r .read .ensures) _ (j .judge .ensures)
+    (sym (f .before .is-fine .ensures) ∙ not-false _ (f .if1 .left)) in
+    plan-taken (rotateAsked (a .steps)) (rotatedBy (a .steps)) unturned (a .«record» .now) (a .out .now) _ (r .read .ensures) (λ i. omega (arith, j .before .before .shared-slice-known .given i))
+    (g .0) (rotate-writes (a .steps)) _ (p .rotate-plan .ensures)
 
 same-length : tie.Need-same-length
 same-length c = search needs
