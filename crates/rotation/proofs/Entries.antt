@@ -43,6 +43,18 @@ unfolding pick
 pick-same true x x′ y e = e refl
 pick-same false x x′ y e = refl
 
+-- where writing a form refuses nothing, or Room, the reader takes its bytes
+taken-where : (f : Form) (room : ℕ) → (refusalOf f room ≡ None) ⊎ (refusalOf f room ≡ Room 0) → fine (readForm (layout f) .refusal) ≡ true
+unfolding refusalOf fine
+taken-where f room w = go (fine (readForm (layout f) .refusal)) refl
+  where
+    go : (b : Bool) → fine (readForm (layout f) .refusal) ≡ b → fine (readForm (layout f) .refusal) ≡ true
+    go true t = t
+    go false t =
+        let is : refusalOf f room ≡ readForm (layout f) .refusal = pick-false (fine (readForm (layout f) .refusal)) _ _ t in
+        let early : numberOf (readForm (layout f) .refusal) ≤ 10 = read-early (layout f) in
+        ⊎-elim (λ q. both-ways (ap fine (sym is ∙ q)) t) (λ q. absurd (omega (arith, ap numberOf (sym is ∙ q)))) w
+
 -- ---- a plan into a buffer
 
 module _ (y : Plan) (out : List ℕ) where
@@ -92,51 +104,59 @@ module _ (asked : Form → Refusal) (planned : Form → Form) (turned : Form →
     pub form-good : WellFormed (x .form)
     form-good = rw back (read-well-formed s bytes read-fine)
 
-    module _ (writes : (f : Form) → WellFormed f → Held f → fine (asked f) ≡ true → (room : ℕ) → (refusalOf (planned f) room ≡ None) ⊎ (refusalOf (planned f) room ≡ Room 0)) (y : Plan) (plan : Planned asked planned turned (x .form) y) (last : List ℕ) (r : Scheduled) (a : PlanWritten y out last r) where
+    module _ (writes : (f : Form) → WellFormed f → Held f → fine (asked f) ≡ true → (room : ℕ) → (refusalOf (planned f) room ≡ None) ⊎ (refusalOf (planned f) room ≡ Room 0)) (y : Plan) (plan : Planned asked planned turned (x .form) y) where
       here : Planned asked planned turned (readForm s .form) y
       here = subst (λ (q : Record). Planned asked planned turned (q .form) y) back plan
 
-      -- what is fine in the end was planned
-      was-fine : fine (r .refusal) ≡ true → fine (y .refusal) ≡ true
-      was-fine t = go (fine (y .refusal)) refl
-        where
-          go : (b : Bool) → fine (y .refusal) ≡ b → fine (y .refusal) ≡ true
-          go true q = q
-          go false q = both-ways t (ap fine (a .refusal ∙ pick-false (fine (y .refusal)) _ _ q) ∙ q)
+      -- the reader takes the bytes of the form planned
+      pub plan-taken : fine (y .refusal) ≡ true → fine (readForm (layout (y .form)) .refusal) ≡ true
+      plan-taken t =
+          subst (λ (f : Form). fine (readForm (layout f) .refusal) ≡ true) (sym (here .form t))
+          (taken-where (planned (readForm s .form)) 0
+          (writes (readForm s .form) (read-well-formed s bytes read-fine) (read-held s bytes read-fine) (ap fine (sym (here .refusal)) ∙ t) 0))
 
-      form-is : fine (r .refusal) ≡ true → y .form ≡ planned (readForm s .form)
-      form-is t = here .form (was-fine t)
+      module _ (last : List ℕ) (r : Scheduled) (a : PlanWritten y out last r) where
+        -- what is fine in the end was planned
+        was-fine : fine (r .refusal) ≡ true → fine (y .refusal) ≡ true
+        was-fine t = go (fine (y .refusal)) refl
+          where
+            go : (b : Bool) → fine (y .refusal) ≡ b → fine (y .refusal) ≡ true
+            go true q = q
+            go false q = both-ways t (ap fine (a .refusal ∙ pick-false (fine (y .refusal)) _ _ q) ∙ q)
 
-      handed-on : (b : Bool) → fine (y .refusal) ≡ b → Handed (loopOf (readForm s .form)) (pairOf (readForm s .form)) (r .refusal) (r .cycle)
-      unfolding fine
-      handed-on true t =
-          let is : r .refusal ≡ refusalOf (planned (readForm s .form)) (length out) =
-          a .refusal ∙ pick-true (fine (y .refusal)) _ _ t ∙ ap (λ (f : Form). refusalOf f (length out)) (here .form t) in
-          let w = writes (readForm s .form) (read-well-formed s bytes read-fine) (read-held s bytes read-fine) (ap fine (sym (here .refusal)) ∙ t) (length out) in
-          let late : (numberOf (r .refusal) ≡ 0) ⊎ (numberOf (r .refusal) ≡ 18) = ⊎-elim (λ q. inl (ap numberOf (is ∙ q))) (λ q. inr (ap numberOf (is ∙ q))) w in
-          handed-none _ _ (r .refusal) (r .cycle)
-          (λ q. ⊎-elim (λ k. omega arith) (λ k. omega arith) late)
-          (λ q. ⊎-elim (λ k. omega arith) (λ k. omega arith) late)
-          (a .cycle ∙ here .handed .none (λ q. both-ways t (ap fine q)) (λ q. both-ways t (ap fine q)))
-      handed-on false t =
-          let is : r .refusal ≡ y .refusal = a .refusal ∙ pick-false (fine (y .refusal)) _ _ t in
-          subst (λ (c : Cycle). Handed (loopOf (readForm s .form)) (pairOf (readForm s .form)) (r .refusal) c) (sym (a .cycle))
-          (subst (λ (q : Refusal). Handed (loopOf (readForm s .form)) (pairOf (readForm s .form)) q (y .cycle)) (sym is) (here .handed))
+        form-is : fine (r .refusal) ≡ true → y .form ≡ planned (readForm s .form)
+        form-is t = here .form (was-fine t)
 
-      -- what becomes of the plan
-      pub entry-planned : RecordScheduled asked planned turned s out last r
-      unfolding scheduleRecord
-      entry-planned = record {
-        refusal =
-            a .refusal
-            ∙ pick-same (fine (y .refusal)) _ _ _ (λ t. ap (λ (f : Form). refusalOf f (length out)) (here .form t))
-            ∙ ap (λ (q : Refusal). pick (fine q) (refusalOf (planned (readForm s .form)) (length out)) q) (here .refusal)
-            ∙ sym (pick-true (fine (readForm s .refusal)) _ _ read-fine);
-        size = a .size ∙ pick-same (fine (r .refusal)) _ _ 0 (λ t. ap (λ (f : Form). length (layout f)) (form-is t));
-        rotations = a .rotations ∙ pick-same (fine (r .refusal)) _ _ 0 (λ t. here .rotations (was-fine t));
-        buffer = a .buffer ∙ pick-same (fine (r .refusal)) _ _ out (λ t. ap (λ (f : Form). sets out 0 (layout f)) (form-is t));
-        handed = handed-on (fine (y .refusal)) refl;
-      }
+        handed-on : (b : Bool) → fine (y .refusal) ≡ b → Handed (loopOf (readForm s .form)) (pairOf (readForm s .form)) (r .refusal) (r .cycle)
+        unfolding fine
+        handed-on true t =
+            let is : r .refusal ≡ refusalOf (planned (readForm s .form)) (length out) =
+            a .refusal ∙ pick-true (fine (y .refusal)) _ _ t ∙ ap (λ (f : Form). refusalOf f (length out)) (here .form t) in
+            let w = writes (readForm s .form) (read-well-formed s bytes read-fine) (read-held s bytes read-fine) (ap fine (sym (here .refusal)) ∙ t) (length out) in
+            let late : (numberOf (r .refusal) ≡ 0) ⊎ (numberOf (r .refusal) ≡ 18) = ⊎-elim (λ q. inl (ap numberOf (is ∙ q))) (λ q. inr (ap numberOf (is ∙ q))) w in
+            handed-none _ _ (r .refusal) (r .cycle)
+            (λ q. ⊎-elim (λ k. omega arith) (λ k. omega arith) late)
+            (λ q. ⊎-elim (λ k. omega arith) (λ k. omega arith) late)
+            (a .cycle ∙ here .handed .none (λ q. both-ways t (ap fine q)) (λ q. both-ways t (ap fine q)))
+        handed-on false t =
+            let is : r .refusal ≡ y .refusal = a .refusal ∙ pick-false (fine (y .refusal)) _ _ t in
+            subst (λ (c : Cycle). Handed (loopOf (readForm s .form)) (pairOf (readForm s .form)) (r .refusal) c) (sym (a .cycle))
+            (subst (λ (q : Refusal). Handed (loopOf (readForm s .form)) (pairOf (readForm s .form)) q (y .cycle)) (sym is) (here .handed))
+
+        -- what becomes of the plan
+        pub entry-planned : RecordScheduled asked planned turned s out last r
+        unfolding scheduleRecord
+        entry-planned = record {
+          refusal =
+              a .refusal
+              ∙ pick-same (fine (y .refusal)) _ _ _ (λ t. ap (λ (f : Form). refusalOf f (length out)) (here .form t))
+              ∙ ap (λ (q : Refusal). pick (fine q) (refusalOf (planned (readForm s .form)) (length out)) q) (here .refusal)
+              ∙ sym (pick-true (fine (readForm s .refusal)) _ _ read-fine);
+          size = a .size ∙ pick-same (fine (r .refusal)) _ _ 0 (λ t. ap (λ (f : Form). length (layout f)) (form-is t));
+          rotations = a .rotations ∙ pick-same (fine (r .refusal)) _ _ 0 (λ t. here .rotations (was-fine t));
+          buffer = a .buffer ∙ pick-same (fine (r .refusal)) _ _ out (λ t. ap (λ (f : Form). sets out 0 (layout f)) (form-is t));
+          handed = handed-on (fine (y .refusal)) refl;
+        }
 
 -- ---- the first schedule
 

@@ -1,12 +1,15 @@
 // First schedules and rotations.
-ghost use mathlib.Core.Bool.{false};
+ghost use mathlib.Core.Bool.{true, false};
 ghost use mathlib.Core.Logic.{_≢_};
 ghost use mathlib.Core.Path.{_≡_};
 ghost use Prim.Native.Nat.{ℕ, _+_, _-_, _≤_, _<_};
 ghost use lib.Dec.{leb};
 ghost use lib.ListN.{getD};
 ghost use Rattle.lists.specs.Pick.{pick};
+ghost use Rattle.answer.specs.Refused.{fine};
 ghost use Rattle.form.specs.Ranges.{WellFormed};
+ghost use Rattle.reader.specs.Reading.{readForm};
+ghost use Rattle.writer.specs.Layout.{layout};
 ghost use Rattle.legal.specs.Legal.{Legal};
 ghost use Rattle.legal.specs.Loop.{loopOf, pairOf};
 ghost use Rattle.legal.specs.Systems.{knotted};
@@ -166,6 +169,7 @@ fn told(fine: bool, rotations: u32) -> u32
 
 // A plan into `out`, unless it is refused; a refusal leaves `out` as it was.
 pub fn write_plan(plan: Plan, out: &mut [u8]) -> Scheduled
+    requires { ⌜ (fine (plan .refusal) ≡ true → fine (readForm (layout (plan .form)) .refusal) ≡ true) ⌝ }
     ensures { λ r. ⌜ PlanWritten plan (now (out .entry)) (now (out .exit)) r ⌝ }
 {
     let refusal = plan.refusal;
@@ -179,7 +183,7 @@ pub fn write_plan(plan: Plan, out: &mut [u8]) -> Scheduled
         };
     }
     let form = plan.form;
-    let written = writer::write(form, out);
+    let written = writer::write_taken(form, out);
     let refused = written.refusal;
     Scheduled {
         refusal: refused,

@@ -74,21 +74,26 @@ module _ (l m : List ℕ) (f : Form) (size : ℕ) (x : Laid l 0 (layout f) m siz
   size-is : size ≡ length (layout f)
   size-is = x .ends ∙ zero-add _
 
-  front : take size m ≡ layout f
+  pub front : take size m ≡ layout f
   front = rw (x .is, size-is) (sets-front l (layout f) (omega (arith, size-is)))
 
-  -- what writing it answers, once the reader has read them back
-  module _ (out : List ℕ) (r : Record) (back : r ≡ readForm (take size m)) where
-    pub refused : fine (r .refusal) ≡ false → (_≡_ {A = Written} (record { refusal = r .refusal; size = 0 }) (written f (length out))) × (out ≡ bufferAfter f out)
+  -- once the reader has read them back
+  module _ (r : Record) (back : r ≡ readForm (take size m)) where
+    pub refused : (out : List ℕ) → fine (r .refusal) ≡ false → (_≡_ {A = Written} (record { refusal = r .refusal; size = 0 }) (written f (length out))) × (out ≡ bufferAfter f out)
     unfolding written bufferAfter refusalOf pick
-    refused e = (rw (← front, ← back) (simp e), rw (← front, ← back) (simp e))
+    refused out e = (rw (← front, ← back) (simp e), rw (← front, ← back) (simp e))
 
-    module _ (good : fine (r .refusal) ≡ true) where
-      pub cramped : length out < size → (_≡_ {A = Written} (record { refusal = Room 0; size = 0 }) (written f (length out))) × (out ≡ bufferAfter f out)
-      unfolding written bufferAfter refusalOf pick fine
-      cramped h = (rw (← size-is, ← front, ← back, good, lt-ltb _ _ h), rw (← size-is, ← front, ← back, good, lt-ltb _ _ h))
+    pub accepted : fine (r .refusal) ≡ true → fine (readForm (layout f) .refusal) ≡ true
+    accepted e = rw (← front, ← back) e
 
-      pub fits : (last : List ℕ) → size ≤ length out → last ≡ sets out 0 (take size m)
-          → (_≡_ {A = Written} (record { refusal = None; size = size }) (written f (length out))) × (last ≡ bufferAfter f out)
-      unfolding written bufferAfter refusalOf pick fine
-      fits last h e = (rw (← size-is, ← front, ← back, good, le-ltb _ _ h), rw (← size-is, ← front, ← back, good, le-ltb _ _ h) e)
+-- ---- a form's bytes that the reader takes
+
+module _ (f : Form) (s out : List ℕ) (is : s ≡ layout f) (good : fine (readForm (layout f) .refusal) ≡ true) where
+  pub cramped : length out < length s → (_≡_ {A = Written} (record { refusal = Room 0; size = 0 }) (written f (length out))) × (out ≡ bufferAfter f out)
+  unfolding written bufferAfter refusalOf pick fine
+  cramped h = (rw (good, ← is, lt-ltb _ _ h), rw (good, ← is, lt-ltb _ _ h))
+
+  pub fits : (n : ℕ) → n ≡ length s → (last : List ℕ) → length s ≤ length out → last ≡ sets out 0 s
+      → (_≡_ {A = Written} (record { refusal = None; size = n }) (written f (length out))) × (last ≡ bufferAfter f out)
+  unfolding written bufferAfter refusalOf pick fine
+  fits n is-n last h e = (rw (good, ← is, le-ltb _ _ h, is-n), rw (good, ← is, le-ltb _ _ h) e)

@@ -1,9 +1,13 @@
 // A held form into a record's bytes: laid out in a buffer, read back, and copied out where the reader takes them.
+ghost use mathlib.Core.Bool.{true};
 ghost use mathlib.Core.Path.{_≡_};
 ghost use Prim.Native.Nat.{_+_, _*_, _≤_, min};
 ghost use lib.ListN.{length, getD};
 ghost use lib.Seq.{sets};
+ghost use Rattle.answer.specs.Refused.{fine};
+ghost use Rattle.form.specs.declared.Form.{Form};
 ghost use Rattle.form.specs.Places.{noClass, noNode, noStep, scheduledOf};
+ghost use Rattle.reader.specs.Reading.{readForm};
 ghost use Rattle.writer.specs.Layout.{codeOf, constantOf, classBytes, nodeBytes, edgeBytes, startBytes, headerBytes, rows, layout};
 ghost use Rattle.writer.specs.Laid.{Laid};
 ghost use Rattle.writer.specs.Writing.{written, bufferAfter};
@@ -239,6 +243,26 @@ fn copy(out: &mut [u8], bytes: &[u8])
     }
 }
 
+// A form's bytes that the reader takes into the front of `out`, or Room.
+fn put(bytes: &[u8], out: &mut [u8]) -> Written
+    requires { ⌜ length (now bytes) ≤ 1367 ⌝ }
+    ensures { λ r. ⌜ ((f : Form) → now (bytes .entry) ≡ layout f → fine (readForm (layout f) .refusal) ≡ true → (r ≡ written f (length (now (out .entry)))) × (now (out .exit) ≡ bufferAfter f (now (out .entry)))) ⌝ }
+{
+    let size = bytes.len();
+    let told = size as u32;
+    if out.len() < size {
+        return Written {
+            refusal: Refusal::Room(0),
+            size: 0,
+        };
+    }
+    copy(out, bytes);
+    Written {
+        refusal: Refusal::None,
+        size: told,
+    }
+}
+
 // The form's record into `out`, or what the reader would refuse of it, or Room. A refusal leaves `out` as it was.
 pub fn write(form: Form, out: &mut [u8]) -> Written
     ensures { λ r. ⌜ (r ≡ written form (length (now (out .entry)))) × (now (out .exit) ≡ bufferAfter form (now (out .entry))) ⌝ }
@@ -251,15 +275,15 @@ pub fn write(form: Form, out: &mut [u8]) -> Written
     if !refusal.is_fine() {
         return Written { refusal, size: 0 };
     }
-    if out.len() < size {
-        return Written {
-            refusal: Refusal::Room(0),
-            size: 0,
-        };
-    }
-    copy(out, bytes);
-    Written {
-        refusal: Refusal::None,
-        size: size as u32,
-    }
+    put(bytes, out)
+}
+
+// The same of a form whose bytes the reader is known to take: they are not read back.
+pub fn write_taken(form: Form, out: &mut [u8]) -> Written
+    requires { ⌜ fine (readForm (layout form) .refusal) ≡ true ⌝ }
+    ensures { λ r. ⌜ (r ≡ written form (length (now (out .entry)))) × (now (out .exit) ≡ bufferAfter form (now (out .entry))) ⌝ }
+{
+    let mut buffer = [0u8; 1367];
+    let size = lay(&mut buffer, form);
+    put(&buffer[..size], out)
 }

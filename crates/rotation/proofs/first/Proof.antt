@@ -6,27 +6,22 @@ use borrow.Author.Tests.{not-true, not-false}
 use borrow.Author.Needs.{needs}
 use Rattle.rotation.specs.Rotation.{firstForm}
 use Rattle.rotation.specs.Scheduling.{firstAsked, unturned}
-use Rattle.rotation.proofs.Entries.{entry-unread, form-good, entry-planned, first-writes}
+use Rattle.rotation.proofs.Entries.{entry-unread, form-good, plan-taken, entry-planned, first-writes}
 use Rattle.rotation.proofs.first.Statement.{statement}
 use Rattle.rotation.proofs.first.Tie as tie
 
--- src/lib.rt:135:9
 read-requires : tie.Need-read-requires
 read-requires c κs = search needs
 
--- src/lib.rt:137:9
 is-fine-requires : tie.Need-is-fine-requires
 is-fine-requires c κs = search needs
 
--- src/lib.rt:142:20
 none-requires : tie.Need-none-requires
 none-requires c κs = search needs
 
--- src/lib.rt:138:9
 returns : tie.Need-returns
 returns c = entry-unread _ _ _ _ _ _ (c .before .before .before .read .ensures) (sym (c .before .before .is-fine .ensures) ∙ not-true _ (c .before .if1 .taken)) _ (c .none .ensures)
 
--- src/lib.rt:146:16
 first-plan-requires : tie.Need-first-plan-requires
 first-plan-requires c κs =
     let r = c .before .before .before in
@@ -34,15 +29,18 @@ first-plan-requires c κs =
     form-good firstAsked firstForm unturned (a .«record» .now) (a .out .now) _ (r .read .ensures) (λ i. omega (arith, r .before .before .shared-slice-known .given i))
     (sym (c .before .before .is-fine .ensures) ∙ not-false _ (c .before .if1 .left))
 
--- src/lib.rt:146:5
 write-plan-requires : tie.Need-write-plan-requires
-write-plan-requires c κs = search needs
+write-plan-requires c κs =
+    let p = c .before in
+    let i = p .before .before in
+    let r = i .before .before in
+    let a = r .before .before .before .args in
+    plan-taken firstAsked firstForm unturned (a .«record» .now) (a .out .now) _ (r .read .ensures) (λ i. omega (arith, r .before .before .shared-slice-known .given i))
+    (sym (i .before .is-fine .ensures) ∙ not-false _ (i .if1 .left)) first-writes _ (p .first-plan .ensures)
 
--- src/lib.rt:132:1
 same-length : tie.Need-same-length
 same-length c = search needs
 
--- src/lib.rt:132:1
 returns-2 : tie.Need-returns-2
 returns-2 c =
     let w = c .before .before in

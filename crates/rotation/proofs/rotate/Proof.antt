@@ -5,7 +5,7 @@ use native.Mathlib.Omega.{arith}
 use borrow.Author.Needs.{needs}
 use borrow.Author.Tests.{not-true, not-false}
 use Rattle.rotation.specs.Scheduling.{rotateAsked, rotatedBy, unturned}
-use Rattle.rotation.proofs.Entries.{entry-unread, form-good, entry-planned}
+use Rattle.rotation.proofs.Entries.{entry-unread, form-good, plan-taken, entry-planned}
 use Rattle.rotation.proofs.Rotates.{rotate-writes}
 use Rattle.rotation.proofs.rotate.Statement.{statement}
 use Rattle.rotation.proofs.rotate.Tie as tie
@@ -30,7 +30,13 @@ rotate-plan-requires c κs =
     (sym (c .before .before .is-fine .ensures) ∙ not-false _ (c .before .if1 .left))
 
 write-plan-requires : tie.Need-write-plan-requires
-write-plan-requires c κs = search needs
+write-plan-requires c κs =
+    let p = c .before in
+    let i = p .before .before in
+    let r = i .before .before in
+    let a = r .before .before .before .args in
+    plan-taken (rotateAsked (a .steps)) (rotatedBy (a .steps)) unturned (a .«record» .now) (a .out .now) _ (r .read .ensures) (λ i. omega (arith, r .before .before .shared-slice-known .given i))
+    (sym (i .before .is-fine .ensures) ∙ not-false _ (i .if1 .left)) (rotate-writes (a .steps)) _ (p .rotate-plan .ensures)
 
 same-length : tie.Need-same-length
 same-length c = search needs
