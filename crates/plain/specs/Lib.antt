@@ -1,4 +1,5 @@
 pub mod Looping
+pub mod Turns
 pub mod Ascending
 pub mod Settled
 pub mod Answer

@@ -8,10 +8,9 @@ ghost use Rattle.answer.specs.Outcome.{noCycle};
 ghost use Rattle.form.specs.Ranges.{WellFormed};
 ghost use Rattle.legal.specs.Loop.{loopOf};
 ghost use Rattle.list_rule.specs.Order.{insert as insertIn};
-ghost use Rattle.operands.specs.Given.{LinksOf};
-ghost use Rattle.operands.specs.Tables.{HasRoom};
 ghost use Rattle.plain.specs.Ascending.{lead, ascending};
-ghost use Rattle.plain.specs.Looping.{iterated, looped};
+ghost use Rattle.plain.specs.Looping.{looped};
+ghost use Rattle.plain.specs.Turns.{next};
 ghost use Rattle.plain.specs.Answer.{roomOf, FormLooped, RecordLooped};
 use answer::Cycle;
 use answer::Refusal;
@@ -67,44 +66,30 @@ fn order_of(nodes: u8, rank: &[u32; 64]) -> [u8; 64]
     order
 }
 
-// One iteration: each node in order, its value stored at its place.
-fn iterate<'a>(
-    form: Form,
-    order: &'a [u8; 64],
-    first: &'a [u16; 64],
-    next: &'a [u16; 256],
-    iteration: Iteration,
-    starts: &'a [u32],
-    values: &mut [u32],
-)
-    requires { ⌜ WellFormed form × LinksOf form (now first) (now next) ⌝ }
-    requires { ⌜ (length (now order) ≡ 64) × ((k : ℕ) → k < form .nodes → getD (now order) k 0 < form .nodes) ⌝ }
-    requires { ⌜ HasRoom (form .nodes) (iteration .0) (now starts) (now values) ⌝ }
-    ensures { λ _. ⌜ now (values .exit) ≡ iterated (loopOf form) (now (starts .entry)) (take (form .nodes) (now (order .entry))) (now (values .entry)) (iteration .0) ⌝ }
+// The value that comes next: of the node at a place of the order, in an iteration.
+struct Turn {
+    iteration: u16,
+    place: u8,
+}
+
+// The next place of the order; after the last one the first, in the next iteration.
+fn after(turn: Turn, nodes: u8) -> Turn
+    requires { ⌜ (turn .iteration < 65535) × (turn .place < nodes) ⌝ }
+    ensures { λ r. ⌜ r ≡ next nodes turn ⌝ }
 {
-    let nodes = form.nodes;
-    let row = iteration.0 as usize * nodes as usize;
-    for k in 0..nodes {
-        let v = order[k as usize] as usize;
-        let node = form.node[v];
-        let operation = node.operation;
-        let value = operands::value_of(
-            operation,
-            first[v],
-            nodes,
-            form.edges,
-            iteration,
-            &form.from,
-            &form.delays,
-            next,
-            starts,
-            values,
-        );
-        values[row + v] = value;
+    let iteration = turn.iteration;
+    let place = turn.place + 1;
+    if place < nodes {
+        return Turn { iteration, place };
+    }
+    Turn {
+        iteration: iteration + 1,
+        place: 0,
     }
 }
 
-// So many iterations, one after the other.
+// So many iterations, one after the other: each node in order, its value stored at its place.
+// One loop over all values: the form is not handed on for each iteration.
 fn iterate_all(form: Form, order: [u8; 64], iterations: u16, starts: &[u32], values: &mut [u32])
     requires { ⌜ WellFormed form ⌝ }
     requires { ⌜ (length order ≡ 64) × ((k : ℕ) → k < form .nodes → getD order k 0 < form .nodes) ⌝ }
@@ -112,17 +97,30 @@ fn iterate_all(form: Form, order: [u8; 64], iterations: u16, starts: &[u32], val
     ensures { λ _. ⌜ now (values .exit) ≡ looped (loopOf form) (now (starts .entry)) (take (form .nodes) order) iterations (now (values .entry)) ⌝ }
 {
     let links = links::links_of(&form.to, form.edges);
-    for i in 0..iterations {
-        let iteration = Iteration(i as u32);
-        iterate(
-            form,
-            &order,
-            &links.first,
+    let nodes = form.nodes;
+    let mut turn = Turn {
+        iteration: 0,
+        place: 0,
+    };
+    while turn.iteration < iterations {
+        let v = order[turn.place as usize] as usize;
+        let row = turn.iteration as usize * nodes as usize;
+        let node = form.node[v];
+        let operation = node.operation;
+        let value = operands::value_of(
+            operation,
+            links.first[v],
+            nodes,
+            form.edges,
+            Iteration(turn.iteration as u32),
+            &form.from,
+            &form.delays,
             &links.next,
-            iteration,
             starts,
             values,
         );
+        values[row + v] = value;
+        turn = after(turn, nodes);
     }
 }
 

@@ -1,22 +1,23 @@
--- `plain::iterate_all` meets its contract: the iterations so far are done.
+-- `plain::iterate_all` meets its contract: the values so far are stored.
 -- Assumes nothing.
-use mathlib.Core.Path.{_≡_}
-use Prim.Native.Nat.{_≤_, _-_}
+use Prim.Native.Nat.{ℕ, _+_, _*_, _≤_, _<_}
 use native.Mathlib.Omega.{arith}
-use lib.ListN.{take}
+use lib.ListN.{length, getD}
 use borrow.Author.Needs.{needs}
 use Rattle.lists.specs.Quotient.{rows-below}
-use Rattle.legal.specs.Loop.{loopOf}
-use Rattle.plain.proofs.Laws.{Rounds, rounds-none, rounds-more}
+use Rattle.legal.specs.Loop.{loopOf, graphOf}
+use Rattle.operands.specs.Given.{form-tells, links-fit, links-begin, links-follow}
+use Rattle.operands.proofs.Laws.{place-small}
+use Rattle.plain.proofs.Laws.{leftAt, next-less, Come, come-first, come-more, come-last}
 use Rattle.plain.proofs.iterate_all.Statement.{statement}
 use Rattle.plain.proofs.iterate_all.Tie as tie
 
 abbrev Inv-loop : tie.InvT-loop
-Inv-loop iterations starts values₀ form order links i₀ values i =
-    (i ≤ iterations) × Rounds (loopOf form) starts (take (form .nodes) order) i values₀ values
+Inv-loop iterations starts values₀ form order links nodes turn₀ values turn =
+    Come (loopOf form) starts order iterations (form .nodes) values₀ turn values
 
 abbrev μ-loop : tie.MeasureT-loop
-μ-loop iterations starts values₀ form order links i₀ values i = iterations - i
+μ-loop iterations starts values₀ form order links nodes turn₀ values turn = leftAt iterations (form .nodes) turn
 
 links-of-requires : tie.Need-links-of-requires Inv-loop μ-loop
 links-of-requires c κs =
@@ -24,40 +25,99 @@ links-of-requires c κs =
     (w .edges, λ e l. omega (arith, w .edge e l .to, w .nodes .1))
 
 loop-holds : tie.Need-loop-holds Inv-loop μ-loop
-loop-holds c = (omega arith, rounds-none _ _ _ _)
+loop-holds c = come-first _ _ _ _ _ _ (c .before .before .before .before .before .pre .0 .nodes .0)
 
-cast-t15 : tie.Need-cast-t15 Inv-loop μ-loop
-cast-t15 c = search needs
+-- the node whose turn it is
+abbrev node : (c : tie.Then1 Inv-loop μ-loop) → ℕ
+node c = getD (c .before .before .before .before .before .before .before .before .args .t2) (c .before .before .loop .turn .place) 0
 
-iterate-requires : tie.Need-iterate-requires Inv-loop μ-loop
-iterate-requires c κs =
-    let s = c .before .before .before .before .before .before .before .before .before .before .before .before in
-    let p = s .pre in
-    let l = c .before .before .before .before .before .before .loop in
-    let room = rows-below (l .i) (s .args .iterations) (s .args .t1 .nodes) (omega arith) in (
-      (p .0, c .before .before .before .before .before .before .before .links-of .ensures),
-      ((p .1 .0 .0, p .1 .0 .1), record { for-starts = p .1 .1 .0; for-values = omega (arith, room, p .1 .1 .1, l .inv .1 .long) }),
+node-in : (c : tie.Then1 Inv-loop μ-loop) → node c < c .before .before .before .before .before .before .before .before .args .t1 .nodes
+node-in c = c .before .before .before .before .before .before .before .before .pre .1 .0 .1 _ (c .before .before .loop .inv .inside)
+
+node-small : (c : tie.Then1 Inv-loop μ-loop) → node c < 64
+node-small c = omega (arith, node-in c, c .before .before .before .before .before .before .before .before .pre .0 .nodes .1)
+
+-- its row is among the values
+row-in : (c : tie.Then1 Inv-loop μ-loop) → c .before .before .loop .turn .iteration * c .before .before .before .before .before .before .before .before .args .t1 .nodes + c .before .before .before .before .before .before .before .before .args .t1 .nodes ≤ length (c .before .before .loop .values)
+row-in c =
+    let s = c .before .before .before .before .before .before .before .before in
+    let l = c .before .before .loop in
+    omega (arith, rows-below (l .turn .iteration) (s .args .iterations) (s .args .t1 .nodes) (c .if1 .taken), s .pre .1 .1 .1, l .inv .long)
+
+cast-v : tie.Need-cast-v Inv-loop μ-loop
+cast-v c = search needs
+
+array-read-v : tie.Need-array-read-v Inv-loop μ-loop
+array-read-v c = omega (arith, c .before .before .before .before .before .before .before .before .before .pre .1 .0 .0, c .before .before .before .before .before .before .before .before .before .pre .0 .nodes .1, c .before .before .before .loop .inv .inside)
+
+cast-v-2 : tie.Need-cast-v-2 Inv-loop μ-loop
+cast-v-2 c = omega (arith, node-small (c .before))
+
+cast-row : tie.Need-cast-row Inv-loop μ-loop
+cast-row c = search needs
+
+cast-row-2 : tie.Need-cast-row-2 Inv-loop μ-loop
+cast-row-2 c = search needs
+
+mul-row : tie.Need-mul-row Inv-loop μ-loop
+mul-row c = omega (arith, place-small (c .before .before .before .before .loop .turn .iteration) (c .before .before .before .before .before .before .before .before .before .before .args .t1 .nodes) 0 (omega arith) (omega arith) (omega arith))
+
+mul-node : tie.Need-mul-node Inv-loop μ-loop
+mul-node c = omega (arith, node-small (c .before .before))
+
+element-copy-out-node : tie.Need-element-copy-out-node Inv-loop μ-loop
+element-copy-out-node c = node-small (c .before .before)
+
+mul-value-of : tie.Need-mul-value-of Inv-loop μ-loop
+mul-value-of c = omega (arith, node-small (c .before .before .before))
+
+element-copy-out-value-of : tie.Need-element-copy-out-value-of Inv-loop μ-loop
+element-copy-out-value-of c = node-small (c .before .before .before)
+
+cast-t32 : tie.Need-cast-t32 Inv-loop μ-loop
+cast-t32 c = search needs
+
+value-of-requires : tie.Need-value-of-requires Inv-loop μ-loop
+value-of-requires c κs =
+    let s = c .before .before .before .before .before .before .before .before .before .before .before .before .before .before .before .before .before .before .before in
+    let links = c .before .before .before .before .before .before .before .before .before .before .before .before .before .before .links-of .ensures in (
+      links-fit (s .args .t1) _ _ links (s .pre .0),
+      record { for-starts = s .pre .1 .1 .0; for-values = row-in (c .before .before .before .before .before .before .before .before .before .before .before) },
+      links-begin (s .args .t1) _ _ links _ (node-small (c .before .before .before .before .before .before .before .before .before .before .before)),
     )
 
-add-i : tie.Need-add-i Inv-loop μ-loop
-add-i c = search needs
+add-values : tie.Need-add-values Inv-loop μ-loop
+add-values c = omega (arith, place-small (c .before .before .before .before .before .before .before .before .before .before .before .before .before .before .loop .turn .iteration) (c .before .before .before .before .before .before .before .before .before .before .before .before .before .before .before .before .before .before .before .before .args .t1 .nodes) (node (c .before .before .before .before .before .before .before .before .before .before .before .before)) (omega arith) (omega arith) (omega (arith, node-small (c .before .before .before .before .before .before .before .before .before .before .before .before))))
+
+mul-values : tie.Need-mul-values Inv-loop μ-loop
+mul-values c = omega (arith, place-small (c .before .before .before .before .before .before .before .before .before .before .before .before .before .before .loop .turn .iteration) (c .before .before .before .before .before .before .before .before .before .before .before .before .before .before .before .before .before .before .before .before .args .t1 .nodes) (node (c .before .before .before .before .before .before .before .before .before .before .before .before)) (omega arith) (omega arith) (omega (arith, node-small (c .before .before .before .before .before .before .before .before .before .before .before .before))))
+
+slice-write-values : tie.Need-slice-write-values Inv-loop μ-loop
+slice-write-values c = omega (arith, row-in (c .before .before .before .before .before .before .before .before .before .before .before .before), node-in (c .before .before .before .before .before .before .before .before .before .before .before .before))
+
+after-requires : tie.Need-after-requires Inv-loop μ-loop
+after-requires c κs = (omega arith, c .before .before .before .before .before .before .before .before .before .before .before .before .before .before .loop .inv .inside)
 
 loop-less : tie.Need-loop-less Inv-loop μ-loop
-loop-less c = search needs
+loop-less c =
+    let t = c .before .before .before .before .before .before .before .before .before .before .before .before .before .before .before .loop .turn in
+    rw (c .after .ensures) (next-less (c .before .before .before .before .before .before .before .before .before .before .before .before .before .before .before .before .before .before .before .before .before .args .iterations) (c .before .before .before .before .before .before .before .before .before .before .before .before .before .before .before .before .before .before .before .before .before .args .t1 .nodes) t (c .before .before .before .before .before .before .before .before .before .before .before .before .before .if1 .taken) (c .before .before .before .before .before .before .before .before .before .before .before .before .before .before .before .loop .inv .inside))
 
 loop-again : tie.Need-loop-again Inv-loop μ-loop
+unfolding loopOf graphOf
 loop-again c =
-    let l = c .before .before .before .before .before .before .before .before .before .loop in
-    (omega arith, rounds-more _ _ _ (l .i) _ _ _ (l .inv .1) (c .before .before .iterate .ensures))
+    let s = c .before .before .before .before .before .before .before .before .before .before .before .before .before .before .before .before .before .before .before .before .before in
+    let f = s .args .t1 in
+    let l = c .before .before .before .before .before .before .before .before .before .before .before .before .before .before .before .loop in
+    let links = c .before .before .before .before .before .before .before .before .before .before .before .before .before .before .before .before .links-of .ensures in
+    rw (c .after .ensures) (come-more (loopOf f) (s .args .starts .now) (s .args .t2) (s .args .iterations) (f .nodes) (s .args .values .now) (l .turn) (l .values) (omega (arith, s .pre .1 .0 .0, s .pre .0 .nodes .1)) (c .before .before .before .before .before .before .before .before .before .before .before .before .before .if1 .taken) (l .inv) _
+    (c .before .value-of .ensures (loopOf f) (node (c .before .before .before .before .before .before .before .before .before .before .before .before .before)) (form-tells f) (links-follow f _ _ links (node (c .before .before .before .before .before .before .before .before .before .before .before .before .before)) (node-small (c .before .before .before .before .before .before .before .before .before .before .before .before .before)))))
 
 same-length : tie.Need-same-length Inv-loop μ-loop
-same-length c = c .before .loop .inv .1 .long
+same-length c = c .before .before .loop .inv .long
 
 returns : tie.Need-returns Inv-loop μ-loop
-returns c =
-    let l = c .before .loop in
-    let end : l .i ≡ c .before .before .before .before .before .before .before .args .iterations = omega arith in
-    rw end at (l .inv .1 .so-far)
+returns c = come-last _ _ _ _ _ _ _ _ (c .if1 .left) (c .before .before .loop .inv)
 
 pub iterate-all-spec : {M : Type 1} → statement M
-iterate-all-spec = tie.close (tie.spec Inv-loop μ-loop links-of-requires loop-holds cast-t15 iterate-requires add-i loop-less loop-again same-length returns)
+iterate-all-spec = tie.close (tie.spec Inv-loop μ-loop links-of-requires loop-holds cast-v array-read-v cast-v-2 cast-row cast-row-2 mul-row mul-node element-copy-out-node mul-value-of element-copy-out-value-of cast-t32 value-of-requires add-values mul-values slice-write-values after-requires loop-less loop-again same-length returns)

@@ -1,0 +1,25 @@
+-- `plain::after` meets its contract: one test.
+-- Assumes nothing.
+use borrow.Author.Needs.{needs}
+use borrow.Author.Tests.{le-ltb, lt-ltb}
+use Rattle.lists.specs.Pick.{pick}
+use Rattle.plain.specs.Turns.{next}
+use Rattle.plain.proofs.after.Statement.{statement}
+use Rattle.plain.proofs.after.Tie as tie
+
+add-place : tie.Need-add-place
+add-place c = search needs
+
+returns : tie.Need-returns
+unfolding next pick
+returns c = rw (lt-ltb _ _ (c .if1 .taken))
+
+add-t6 : tie.Need-add-t6
+add-t6 c = search needs
+
+returns-2 : tie.Need-returns-2
+unfolding next pick
+returns-2 c = rw (le-ltb _ _ (c .if1 .left))
+
+pub after-spec : {M : Type 1} → statement M
+after-spec = tie.close (tie.spec add-place returns add-t6 returns-2)
