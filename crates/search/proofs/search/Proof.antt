@@ -5,7 +5,7 @@ use Prim.Native.Nat.{_<_}
 use native.Mathlib.Omega.{arith}
 use borrow.Author.Tests.{not-true, not-false}
 use borrow.Author.Needs.{needs}
-use Rattle.rotation.proofs.Entries.{entry-unread, form-good, entry-planned}
+use Rattle.rotation.proofs.Entries.{entry-unread, form-good, plan-taken, entry-planned}
 use Rattle.search.specs.Searching.{searchAsked, searchForm, searchTurns}
 use Rattle.search.proofs.Plans.{search-writes}
 use Rattle.search.proofs.search.Statement.{statement}
@@ -34,7 +34,15 @@ search-plan-requires c κs =
     (λ i. omega (arith, r .before .before .shared-slice-known .given i)) (sym (c .before .before .is-fine .ensures) ∙ not-false _ (c .before .if1 .left))
 
 write-plan-requires : tie.Need-write-plan-requires
-write-plan-requires c κs = search needs
+write-plan-requires c κs =
+    let p = c .before in
+    let i = p .before .before in
+    let r = i .before .before in
+    let b = r .before .before .before in
+    let a = b .args in
+    plan-taken (searchAsked (a .size)) (searchForm (a .count) (a .size)) (searchTurns (a .count) (a .size)) (a .«record» .now) (a .out .now) _ (r .read .ensures)
+    (λ i. omega (arith, r .before .before .shared-slice-known .given i)) (sym (i .before .is-fine .ensures) ∙ not-false _ (i .if1 .left))
+    (search-writes (a .count) (a .size) (small b)) _ (p .search-plan .ensures)
 
 same-length : tie.Need-same-length
 same-length c = search needs
