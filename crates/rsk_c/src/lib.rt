@@ -21,7 +21,7 @@ pub extern "C" fn rsk_rewrite(record: &[u8], out: &mut [u8], answer: &mut [u32; 
         return answer::fill(answer, refusal, answer::numbers_of(0, 0, 0), Cycle::none());
     }
     let form = read.form;
-    let written = writer::write(form, out);
+    let written = writer::write_taken(form, out);
     let refused = written.refusal;
     answer::fill(
         answer,

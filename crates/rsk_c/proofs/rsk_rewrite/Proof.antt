@@ -1,17 +1,12 @@
+-- `rsk_c::rsk_rewrite` meets its contract: the reader's refusal, else what becomes of the form read, which need not be read back.
+-- Assumes nothing.
 use mathlib.Core.Path.{sym, _∙_}
-use borrow.Author.Tests.{not-true, not-false}
-use Rattle.rsk_c.proofs.Laws.{refused, passed, answered}
+use native.Mathlib.Omega.{arith}
 use borrow.Author.Needs.{needs}
+use borrow.Author.Tests.{not-true, not-false}
+use Rattle.rsk_c.proofs.Laws.{refused, passed, answered, taken}
 use Rattle.rsk_c.proofs.rsk_rewrite.Statement.{statement}
 use Rattle.rsk_c.proofs.rsk_rewrite.Tie as tie
-use Rattle.rsk_c.proofs.rsk_rewrite.Reads as reads
-use Rattle.rsk_c.proofs.rsk_rewrite.Lts as lts
-use Rattle.answer.proofs.Cycle.none.Reads as none-reads
-use Rattle.answer.proofs.Refusal.is_fine.Reads as is-fine-reads
-use Rattle.answer.proofs.fill.Reads as fill-reads
-use Rattle.answer.proofs.numbers_of.Reads as numbers-of-reads
-use Rattle.reader.proofs.read.Reads as read-reads
-use Rattle.writer.proofs.write.Reads as write-reads
 
 read-requires : tie.Need-read-requires
 read-requires c κs = search needs
@@ -34,8 +29,8 @@ returns c =
     let a = answered _ _ _ _ _ _ _ (w .0) (c .before .before .numbers-of .ensures) (c .before .none .ensures) (c .fill .ensures .0) (c .fill .ensures .1) in
     (a .0, (w .1, a .1))
 
-write-requires : tie.Need-write-requires
-write-requires c κs = search needs
+write-taken-requires : tie.Need-write-taken-requires
+write-taken-requires c κs = search needs
 
 numbers-of-requires-2 : tie.Need-numbers-of-requires-2
 numbers-of-requires-2 c κs = search needs
@@ -52,7 +47,7 @@ same-length c = search needs
 returns-2 : tie.Need-returns-2
 returns-2 c =
     let o = c .before .before .before .before .before .before in
-    let w = passed _ _ _ (c .before .before .before .before .before .before .before .before .before .before .before .read .ensures) (sym (c .before .before .before .before .before .before .before .before .before .before .is-fine .ensures) ∙ not-false _ (c .before .before .before .before .before .before .before .before .before .if1 .left)) _ _ (o .write .ensures .0) (o .write .ensures .1) in
+    let w = passed _ _ _ (c .before .before .before .before .before .before .before .before .before .before .before .read .ensures) (sym (c .before .before .before .before .before .before .before .before .before .before .is-fine .ensures) ∙ not-false _ (c .before .before .before .before .before .before .before .before .before .if1 .left)) _ _ (o .write-taken .ensures .0) (o .write-taken .ensures .1) in
     let a = answered _ _ _ _ _ _ _ (w .0) (c .before .before .numbers-of2 .ensures) (c .before .none2 .ensures) (c .fill2 .ensures .0) (c .fill2 .ensures .1) in
     (a .0, (w .1, a .1))
 
@@ -66,7 +61,7 @@ rsk-rewrite-spec =
     none-requires
     fill-requires
     returns
-    write-requires
+    write-taken-requires
     numbers-of-requires-2
     none-requires-2
     fill-requires-2
