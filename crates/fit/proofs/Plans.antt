@@ -39,7 +39,7 @@ use Rattle.fit.specs.declared.Fitted.{Fitted}
 use Rattle.fit.specs.Retimed.{withRetiming, fittedForm, StartsFitted}
 use Rattle.fit.specs.Fitting.{fitOf, fitRecord, fitBuffer, RecordFitted}
 use Rattle.fit.specs.Planned.{Plan, Planned}
-use Rattle.fit.specs.Laws.{Told, bare, knot, unfit, units, fits, past-knots, fit-told, fit-none, fitted-written}
+use Rattle.fit.specs.Laws.{Told, bare, knot, unfit, units, fits, past-knots, fit-told, fit-none, fitted-taken, fitted-written}
 
 -- ---- a form
 
@@ -162,6 +162,14 @@ module _ (s out : List ℕ) where
 
           none : fitOf (readForm s .form) ≡ None
           none = told-none _ _ _ (fit-told (readForm s .form) (read-well-formed s bytes read-fine)) fit-fine
+
+          -- the reader takes the bytes of the form with the retiming found
+          pub fit-taken : fine (readForm (layout (y .form)) .refusal) ≡ true
+          fit-taken =
+              let w = read-well-formed s bytes read-fine in
+              let t = fit-none (readForm s .form) w none in
+              subst (λ (f : Form). fine (readForm (layout f) .refusal) ≡ true) (sym (plan .form b))
+              (fitted-taken (readForm s .form) w (t .0) (t .2) (read-held s bytes read-fine))
 
           writes : fitRecord s (length out) ≡ refusalOf (fittedForm (readForm s .form)) (length out)
           unfolding fitRecord

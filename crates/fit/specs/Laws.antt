@@ -84,14 +84,18 @@ module _ (f : Form) (w : WellFormed f) (n : f .length ≢ 0) (q : Settles (loopO
     retiming = λ v l. omega (arith, retimings-small (loopOf f) (pairOf f) (sound-form f w) q v);
   }
 
+  -- the reader takes its bytes
+  pub fitted-taken : Held f → fine (readForm (layout (fittedForm f)) .refusal) ≡ true
+  unfolding fine
+  fitted-taken h = ap (λ (x : Record). fine (x .refusal)) (well-formed-written (fittedForm f) (fitted-held h) fitted-well-formed)
+
   -- writing it refuses nothing, or Room
   pub fitted-written : Held f → (room : ℕ) → (refusalOf (fittedForm f) room ≡ None) ⊎ (refusalOf (fittedForm f) room ≡ Room 0)
-  unfolding refusalOf fine
+  unfolding refusalOf
   fitted-written h room =
       let g : Form = fittedForm f in
       let P : Refusal → Type 0 = λ r. (r ≡ None) ⊎ (r ≡ Room 0) in
-      let reads : fine (readForm (layout g) .refusal) ≡ true = ap (λ (x : Record). fine (x .refusal)) (well-formed-written g (fitted-held h) fitted-well-formed) in
-      subst P (sym (pick-true (fine (readForm (layout g) .refusal)) (pick (ltb room (length (layout g))) (Room 0) None) _ reads))
+      subst P (sym (pick-true (fine (readForm (layout g) .refusal)) (pick (ltb room (length (layout g))) (Room 0) None) _ (fitted-taken h)))
       (pick-ind P (ltb room (length (layout g))) (Room 0) None (λ _. inr refl) (λ _. inl refl))
 
   -- its pair is legal where the starts keep the unit rule

@@ -1,4 +1,5 @@
 // Fitting a retiming to given starts.
+ghost use mathlib.Core.Bool.{true};
 ghost use mathlib.Core.Logic.{_≢_};
 ghost use mathlib.Core.Path.{_≡_};
 ghost use Prim.Native.Nat.{ℕ, _+_, _≤_, _<_};
@@ -6,8 +7,11 @@ ghost use lib.Dec.{leb};
 ghost use lib.ListN.{length, getD, take};
 ghost use Rattle.lists.specs.Pick.{pick};
 ghost use Rattle.lists.specs.Fold.{top};
+ghost use Rattle.answer.specs.Refused.{fine};
 ghost use Rattle.form.specs.Ranges.{WellFormed};
 ghost use Rattle.legal.specs.Loop.{loopOf, pairOf};
+ghost use Rattle.reader.specs.Reading.{readForm};
+ghost use Rattle.writer.specs.Layout.{layout};
 ghost use Rattle.writer.specs.Writing.{bufferAfter};
 ghost use Rattle.fit.specs.Tables.{Limited, turnedOver, Tabled};
 ghost use Rattle.fit.specs.Retimed.{withRetiming, StartsFitted, TablesFitted};
@@ -145,12 +149,13 @@ pub fn fit_starts(form: Form) -> Fitting
 
 // The form's record with the retiming that fits, into `out`.
 fn write_fitted(mut form: Form, fitting: Fitting, out: &mut [u8]) -> Fitted
+    requires { ⌜ fine (readForm (layout (withRetiming form (fitting .retiming))) .refusal) ≡ true ⌝ }
     ensures { λ r. ⌜ r ≡ fittedAnswer form fitting (length (now (out .entry))) ⌝ }
     ensures { λ _. ⌜ now (out .exit) ≡ bufferAfter (withRetiming form (fitting .retiming)) (now (out .entry)) ⌝ }
 {
     let retiming = fitting.retiming;
     form.retiming = retiming;
-    let written = writer::write(form, out);
+    let written = writer::write_taken(form, out);
     let refusal = written.refusal;
     let cycle = fitting.cycle;
     Fitted {

@@ -18,6 +18,7 @@ use Rattle.fit.proofs.Plans.{
   fit-unread,
   form-good,
   fit-refused,
+  fit-taken,
   fit-answered,
 }
 use Rattle.fit.proofs.fit.Statement.{statement}
@@ -126,7 +127,19 @@ returns-5 c =
     (sym (c .before .before .is-fine2 .ensures) ∙ not-true _ (c .before .if5 .taken)))
 
 write-fitted-requires : tie.Need-write-fitted-requires
-write-fitted-requires c κs = search needs
+write-fitted-requires c κs =
+    let u = c .before .before .before .before in
+    let l = u .before .before .before .before .before in
+    let k = l .before .before .before .before .before .before .before .before in
+    let i = k .before .before .before .before .before .before in
+    let r = i .before .before in
+    let a = r .before .before .before .args in
+    let good = sym (i .before .is-fine .ensures) ∙ not-false _ (i .if1 .left) in
+    fit-taken (a .«record» .now) (a .out .now) _ (r .read .ensures) (λ i. omega (arith, r .before .before .shared-slice-known .given i)) good _
+    (plan-fits _ (k .before .before .before .before .before .if2 .left) _ (k .knot-of .ensures _ (told-form _)) (l .before .before .before .before .before .before .if3 .left) _
+    (l .fit-limits .ensures _ (described-form _ (form-good (a .«record» .now) (a .out .now) _ (r .read .ensures) (λ i. omega (arith, r .before .before .shared-slice-known .given i)) good) _ _ (l .before .before .before .before .limits-of .ensures)))
+    (not-false _ (u .before .before .if4 .left)) _ (u .crowded .ensures) _ refl)
+    (sym (c .before .before .before .is-fine2 .ensures) ∙ not-false _ (c .before .before .if5 .left))
 
 same-length : tie.Need-same-length
 same-length c = search needs

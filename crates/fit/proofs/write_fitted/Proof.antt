@@ -6,8 +6,9 @@ use Rattle.fit.specs.Planned.{fittedAnswer}
 use Rattle.fit.proofs.write_fitted.Statement.{statement}
 use Rattle.fit.proofs.write_fitted.Tie as tie
 
-write-requires : tie.Need-write-requires
-write-requires c κs = search needs
+write-taken-requires : tie.Need-write-taken-requires
+unfolding withRetiming
+write-taken-requires c κs = c .before .before .before .pre
 
 same-length : tie.Need-same-length
 same-length c = search needs
@@ -15,8 +16,8 @@ same-length c = search needs
 returns : tie.Need-returns
 unfolding fittedAnswer withRetiming
 returns c =
-    let w = c .before .before .before .write .ensures in
+    let w = c .before .before .before .write-taken .ensures in
     (rw (w .0), w .1)
 
 pub write-fitted-spec : {M : Type 1} → statement M
-write-fitted-spec = tie.close (tie.spec write-requires same-length returns)
+write-fitted-spec = tie.close (tie.spec write-taken-requires same-length returns)
