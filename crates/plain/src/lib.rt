@@ -68,8 +68,8 @@ fn order_of(nodes: u8, rank: &[u32; 64]) -> [u8; 64]
 
 // The value that comes next: of the node at a place of the order, in an iteration.
 struct Turn {
-    iteration: u16,
-    place: u8,
+    iteration: u32,
+    place: usize,
 }
 
 // The next place of the order; after the last one the first, in the next iteration.
@@ -79,7 +79,7 @@ fn after(turn: Turn, nodes: u8) -> Turn
 {
     let iteration = turn.iteration;
     let place = turn.place + 1;
-    if place < nodes {
+    if place < nodes as usize {
         return Turn { iteration, place };
     }
     Turn {
@@ -102,9 +102,11 @@ fn iterate_all(form: Form, order: [u8; 64], iterations: u16, starts: &[u32], val
         iteration: 0,
         place: 0,
     };
-    while turn.iteration < iterations {
-        let v = order[turn.place as usize] as usize;
-        let row = turn.iteration as usize * nodes as usize;
+    while turn.iteration < iterations as u32 {
+        let i = turn.iteration;
+        let k = turn.place;
+        let v = order[k] as usize;
+        let row = i as usize * nodes as usize;
         let node = form.node[v];
         let operation = node.operation;
         let value = operands::value_of(
@@ -112,7 +114,7 @@ fn iterate_all(form: Form, order: [u8; 64], iterations: u16, starts: &[u32], val
             links.first[v],
             nodes,
             form.edges,
-            Iteration(turn.iteration as u32),
+            Iteration(i),
             &form.from,
             &form.delays,
             &links.next,

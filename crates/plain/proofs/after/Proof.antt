@@ -14,12 +14,12 @@ returns : tie.Need-returns
 unfolding next pick
 returns c = rw (lt-ltb _ _ (c .if1 .taken))
 
-add-t6 : tie.Need-add-t6
-add-t6 c = search needs
+add-t7 : tie.Need-add-t7
+add-t7 c = search needs
 
 returns-2 : tie.Need-returns-2
 unfolding next pick
 returns-2 c = rw (le-ltb _ _ (c .if1 .left))
 
 pub after-spec : {M : Type 1} → statement M
-after-spec = tie.close (tie.spec add-place returns add-t6 returns-2)
+after-spec = tie.close (tie.spec add-place returns add-t7 returns-2)

@@ -44,14 +44,11 @@ row-in c =
     let l = c .before .before .loop in
     omega (arith, rows-below (l .turn .iteration) (s .args .iterations) (s .args .t1 .nodes) (c .if1 .taken), s .pre .1 .1 .1, l .inv .long)
 
-cast-v : tie.Need-cast-v Inv-loop μ-loop
-cast-v c = search needs
-
 array-read-v : tie.Need-array-read-v Inv-loop μ-loop
-array-read-v c = omega (arith, c .before .before .before .before .before .before .before .before .before .pre .1 .0 .0, c .before .before .before .before .before .before .before .before .before .pre .0 .nodes .1, c .before .before .before .loop .inv .inside)
+array-read-v c = omega (arith, c .before .before .before .before .before .before .before .before .pre .1 .0 .0, c .before .before .before .before .before .before .before .before .pre .0 .nodes .1, c .before .before .loop .inv .inside)
 
-cast-v-2 : tie.Need-cast-v-2 Inv-loop μ-loop
-cast-v-2 c = omega (arith, node-small (c .before))
+cast-v : tie.Need-cast-v Inv-loop μ-loop
+cast-v c = omega (arith, node-small c)
 
 cast-row : tie.Need-cast-row Inv-loop μ-loop
 cast-row c = search needs
@@ -60,58 +57,57 @@ cast-row-2 : tie.Need-cast-row-2 Inv-loop μ-loop
 cast-row-2 c = search needs
 
 mul-row : tie.Need-mul-row Inv-loop μ-loop
-mul-row c = omega (arith, place-small (c .before .before .before .before .loop .turn .iteration) (c .before .before .before .before .before .before .before .before .before .before .args .t1 .nodes) 0 (omega arith) (omega arith) (omega arith))
+mul-row c = omega (arith, place-small (c .before .before .loop .turn .iteration) (c .before .before .before .before .before .before .before .before .args .t1 .nodes) 0 (omega arith) (omega arith) (omega arith))
 
 mul-node : tie.Need-mul-node Inv-loop μ-loop
-mul-node c = omega (arith, node-small (c .before .before))
+mul-node c = omega (arith, node-small c)
 
 element-copy-out-node : tie.Need-element-copy-out-node Inv-loop μ-loop
-element-copy-out-node c = node-small (c .before .before)
+element-copy-out-node c = node-small c
 
 mul-value-of : tie.Need-mul-value-of Inv-loop μ-loop
-mul-value-of c = omega (arith, node-small (c .before .before .before))
+mul-value-of c = omega (arith, node-small (c .before))
 
 element-copy-out-value-of : tie.Need-element-copy-out-value-of Inv-loop μ-loop
-element-copy-out-value-of c = node-small (c .before .before .before)
-
-cast-t32 : tie.Need-cast-t32 Inv-loop μ-loop
-cast-t32 c = search needs
+element-copy-out-value-of c = node-small (c .before)
 
 value-of-requires : tie.Need-value-of-requires Inv-loop μ-loop
 value-of-requires c κs =
-    let s = c .before .before .before .before .before .before .before .before .before .before .before .before .before .before .before .before .before .before .before in
-    let links = c .before .before .before .before .before .before .before .before .before .before .before .before .before .before .links-of .ensures in (
+    let s = c .before .before .before .before .before .before .before .before .before .before .before .before .before .before .before .before in
+    let links = c .before .before .before .before .before .before .before .before .before .before .before .links-of .ensures in (
       links-fit (s .args .t1) _ _ links (s .pre .0),
-      record { for-starts = s .pre .1 .1 .0; for-values = row-in (c .before .before .before .before .before .before .before .before .before .before .before) },
-      links-begin (s .args .t1) _ _ links _ (node-small (c .before .before .before .before .before .before .before .before .before .before .before)),
+      record { for-starts = s .pre .1 .1 .0; for-values = row-in (c .before .before .before .before .before .before .before .before) },
+      links-begin (s .args .t1) _ _ links _ (node-small (c .before .before .before .before .before .before .before .before)),
     )
 
 add-values : tie.Need-add-values Inv-loop μ-loop
-add-values c = omega (arith, place-small (c .before .before .before .before .before .before .before .before .before .before .before .before .before .before .loop .turn .iteration) (c .before .before .before .before .before .before .before .before .before .before .before .before .before .before .before .before .before .before .before .before .args .t1 .nodes) (node (c .before .before .before .before .before .before .before .before .before .before .before .before)) (omega arith) (omega arith) (omega (arith, node-small (c .before .before .before .before .before .before .before .before .before .before .before .before))))
+add-values c = omega (arith, place-small (c .before .before .before .before .before .before .before .before .before .before .before .loop .turn .iteration) (c .before .before .before .before .before .before .before .before .before .before .before .before .before .before .before .before .before .args .t1 .nodes) (node (c .before .before .before .before .before .before .before .before .before)) (omega arith) (omega arith) (omega (arith, node-small (c .before .before .before .before .before .before .before .before .before))))
 
 mul-values : tie.Need-mul-values Inv-loop μ-loop
-mul-values c = omega (arith, place-small (c .before .before .before .before .before .before .before .before .before .before .before .before .before .before .loop .turn .iteration) (c .before .before .before .before .before .before .before .before .before .before .before .before .before .before .before .before .before .before .before .before .args .t1 .nodes) (node (c .before .before .before .before .before .before .before .before .before .before .before .before)) (omega arith) (omega arith) (omega (arith, node-small (c .before .before .before .before .before .before .before .before .before .before .before .before))))
+mul-values c = omega (arith, place-small (c .before .before .before .before .before .before .before .before .before .before .before .loop .turn .iteration) (c .before .before .before .before .before .before .before .before .before .before .before .before .before .before .before .before .before .args .t1 .nodes) (node (c .before .before .before .before .before .before .before .before .before)) (omega arith) (omega arith) (omega (arith, node-small (c .before .before .before .before .before .before .before .before .before))))
 
 slice-write-values : tie.Need-slice-write-values Inv-loop μ-loop
-slice-write-values c = omega (arith, row-in (c .before .before .before .before .before .before .before .before .before .before .before .before), node-in (c .before .before .before .before .before .before .before .before .before .before .before .before))
+slice-write-values c = omega (arith, row-in (c .before .before .before .before .before .before .before .before .before), node-in (c .before .before .before .before .before .before .before .before .before))
 
 after-requires : tie.Need-after-requires Inv-loop μ-loop
-after-requires c κs = (omega arith, c .before .before .before .before .before .before .before .before .before .before .before .before .before .before .loop .inv .inside)
+after-requires c κs = (omega arith, c .before .before .before .before .before .before .before .before .before .before .before .loop .inv .inside)
 
 loop-less : tie.Need-loop-less Inv-loop μ-loop
 loop-less c =
-    let t = c .before .before .before .before .before .before .before .before .before .before .before .before .before .before .before .loop .turn in
-    rw (c .after .ensures) (next-less (c .before .before .before .before .before .before .before .before .before .before .before .before .before .before .before .before .before .before .before .before .before .args .iterations) (c .before .before .before .before .before .before .before .before .before .before .before .before .before .before .before .before .before .before .before .before .before .args .t1 .nodes) t (c .before .before .before .before .before .before .before .before .before .before .before .before .before .if1 .taken) (c .before .before .before .before .before .before .before .before .before .before .before .before .before .before .before .loop .inv .inside))
+    let s = c .before .before .before .before .before .before .before .before .before .before .before .before .before .before .before .before .before .before in
+    let l = c .before .before .before .before .before .before .before .before .before .before .before .before .loop in
+    rw (c .after .ensures) (next-less (s .args .iterations) (s .args .t1 .nodes) (l .turn) (c .before .before .before .before .before .before .before .before .before .before .if1 .taken) (l .inv .inside))
 
 loop-again : tie.Need-loop-again Inv-loop μ-loop
 unfolding loopOf graphOf
 loop-again c =
-    let s = c .before .before .before .before .before .before .before .before .before .before .before .before .before .before .before .before .before .before .before .before .before in
+    let s = c .before .before .before .before .before .before .before .before .before .before .before .before .before .before .before .before .before .before in
     let f = s .args .t1 in
-    let l = c .before .before .before .before .before .before .before .before .before .before .before .before .before .before .before .loop in
-    let links = c .before .before .before .before .before .before .before .before .before .before .before .before .before .before .before .before .links-of .ensures in
-    rw (c .after .ensures) (come-more (loopOf f) (s .args .starts .now) (s .args .t2) (s .args .iterations) (f .nodes) (s .args .values .now) (l .turn) (l .values) (omega (arith, s .pre .1 .0 .0, s .pre .0 .nodes .1)) (c .before .before .before .before .before .before .before .before .before .before .before .before .before .if1 .taken) (l .inv) _
-    (c .before .value-of .ensures (loopOf f) (node (c .before .before .before .before .before .before .before .before .before .before .before .before .before)) (form-tells f) (links-follow f _ _ links (node (c .before .before .before .before .before .before .before .before .before .before .before .before .before)) (node-small (c .before .before .before .before .before .before .before .before .before .before .before .before .before)))))
+    let l = c .before .before .before .before .before .before .before .before .before .before .before .before .loop in
+    let links = c .before .before .before .before .before .before .before .before .before .before .before .before .before .links-of .ensures in
+    let v = node (c .before .before .before .before .before .before .before .before .before .before) in
+    rw (c .after .ensures) (come-more (loopOf f) (s .args .starts .now) (s .args .t2) (s .args .iterations) (f .nodes) (s .args .values .now) (l .turn) (l .values) (omega (arith, s .pre .1 .0 .0, s .pre .0 .nodes .1)) (c .before .before .before .before .before .before .before .before .before .before .if1 .taken) (l .inv) _
+    (c .before .value-of .ensures (loopOf f) v (form-tells f) (links-follow f _ _ links v (node-small (c .before .before .before .before .before .before .before .before .before .before)))))
 
 same-length : tie.Need-same-length Inv-loop μ-loop
 same-length c = c .before .before .loop .inv .long
@@ -120,4 +116,4 @@ returns : tie.Need-returns Inv-loop μ-loop
 returns c = come-last _ _ _ _ _ _ _ _ (c .if1 .left) (c .before .before .loop .inv)
 
 pub iterate-all-spec : {M : Type 1} → statement M
-iterate-all-spec = tie.close (tie.spec Inv-loop μ-loop links-of-requires loop-holds cast-v array-read-v cast-v-2 cast-row cast-row-2 mul-row mul-node element-copy-out-node mul-value-of element-copy-out-value-of cast-t32 value-of-requires add-values mul-values slice-write-values after-requires loop-less loop-again same-length returns)
+iterate-all-spec = tie.close (tie.spec Inv-loop μ-loop links-of-requires loop-holds array-read-v cast-v cast-row cast-row-2 mul-row mul-node element-copy-out-node mul-value-of element-copy-out-value-of value-of-requires add-values mul-values slice-write-values after-requires loop-less loop-again same-length returns)
