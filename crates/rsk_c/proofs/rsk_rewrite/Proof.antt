@@ -30,7 +30,10 @@ returns c =
     (a .0, (w .1, a .1))
 
 write-taken-requires : tie.Need-write-taken-requires
-write-taken-requires c κs = search needs
+write-taken-requires c κs =
+    let r = c .before .before .before .before in
+    taken _ (r .before .before .before .args .out .now) _ (r .read .ensures) (λ i. omega (arith, r .before .before .shared-slice-known .given i))
+    (sym (c .before .before .before .is-fine .ensures) ∙ not-false _ (c .before .before .if1 .left))
 
 numbers-of-requires-2 : tie.Need-numbers-of-requires-2
 numbers-of-requires-2 c κs = search needs
