@@ -1,34 +1,41 @@
 -- The ways that a rotation goes: what the judge refuses, Size, Long, and the form rotated.
 -- Assumes nothing.
-use mathlib.Core.Path.{_≡_, refl, sym, ap, _∙_}
+use mathlib.Core.Path.{_≡_, refl, sym, ap, subst, _∙_}
 use mathlib.Core.Bool.{Bool, true, false, _&&_}
 use mathlib.Core.Logic.{_⊎_, _≢_}
+use mathlib.Core.List.{List}
 use Prim.Native.Nat.{ℕ, _≤_, _<_}
 use native.Mathlib.Omega.{arith}
 use lib.Dec.{ltb}
+use lib.ListN.{length}
 use borrow.Author.Tests.{ltb-true, lt-ltb, le-ltb}
 use Rattle.lists.specs.Pick.{pick, pick-true, pick-false, pick-ind, both-ways}
 use Rattle.lists.specs.Both.{and-both}
 use Rattle.answer.specs.Refused.{numberOf, fine}
 use Rattle.answer.specs.Outcome.{noCycle}
+use Rattle.answer.specs.declared.Cycle.{Cycle}
 use Rattle.answer.specs.declared.Refusal.{Refusal}
 use Rattle.answer.specs.declared.Refusal.the-variants.{None, Size, Long, Room}
 use Rattle.form.specs.declared.Form.{Form}
 use Rattle.form.specs.Ranges.{WellFormed}
+use Rattle.field.specs.Number.{Bytes}
+use Rattle.reader.specs.declared.Record.{Record}
+use Rattle.reader.specs.Reading.{readForm}
 use Rattle.writer.specs.Writing.{refusalOf}
 use Rattle.record.specs.Held.{Held}
+use Rattle.record.specs.Read.{read-well-formed}
 use Rattle.legal.specs.Loop.{Loop, Pair, loopOf, pairOf}
 use Rattle.legal.specs.Legal.{Legal}
 use Rattle.legal.specs.Judging.{judgeOf}
 use Rattle.legal.specs.Judged.{Judged, bare, knot, rules, judged, judge-accepts}
 use Rattle.legal.specs.Ruled.{dependence, units, kept}
-use Rattle.judge.specs.Judgement.{Judgement}
+use Rattle.legal.specs.Handed.{handed-none}
+use Rattle.judge.specs.Judgement.{judgeRecord, RecordJudgement}
 use Rattle.judge.specs.declared.Judged as verdict
 use Rattle.rotation.specs.Pairs.{withPair}
 use Rattle.rotation.specs.Rotation.{rotatedLength, rotated, tooLong, turnedForm, rotatedOr}
 use Rattle.rotation.specs.RotatedLaws.{rotated-written}
-use Rattle.rotation.specs.Scheduling.{Planned, unturned, turns, rotateAsked, rotatedBy}
-use Rattle.legal.specs.Handed.{handed-none}
+use Rattle.rotation.specs.Scheduling.{scheduleRecord, RecordScheduled, Planned, unturned, turns, rotateAsked, rotatedBy}
 
 -- a judge that refuses nothing accepts
 judged-none : (g : Loop) (p : Pair) (r : Refusal) → Judged g p r → fine r ≡ true → r ≡ None
@@ -57,64 +64,98 @@ or-length : (f : Form) (z : ℕ) → rotatedOr f z .length ≡ rotatedLength f z
 unfolding rotatedOr turnedForm rotated withPair
 or-length f z = pick-ind (λ (x : Form). x .length ≡ rotatedLength f z) (tooLong f z) (turnedForm f z) (rotated f z) (λ _. refl) (λ _. refl)
 
-module _ (f : Form) (w : WellFormed f) (z : ℕ) where
+-- what a record's judge accepts was read, and its form is accepted
+record-accepted : (s : List ℕ) → Bytes s → (j : verdict.Judged) → RecordJudgement s j → fine (j .refusal) ≡ true
+    → (fine (readForm s .refusal) ≡ true) × (judgeOf (readForm s .form) ≡ None)
+unfolding judgeRecord
+record-accepted s bytes j q t = go (fine (readForm s .refusal)) refl
+  where
+    go : (b : Bool) → fine (readForm s .refusal) ≡ b → (fine (readForm s .refusal) ≡ true) × (judgeOf (readForm s .form) ≡ None)
+    go true e =
+        let f : Form = readForm s .form in
+        let is : j .refusal ≡ judgeOf f = q .refusal ∙ pick-true (fine (readForm s .refusal)) _ _ e in
+        (e, judged-none (loopOf f) (pairOf f) (judgeOf f) (judged f (read-well-formed s bytes e)) (sym (ap fine is) ∙ t))
+    go false e = both-ways (sym (ap fine (q .refusal ∙ pick-false (fine (readForm s .refusal)) _ _ e)) ∙ t) e
+
+-- so what is read of such a record can be rotated
+pub record-good : (s : List ℕ) → Bytes s → (x : Record) → x ≡ readForm s → (j : verdict.Judged) → RecordJudgement s j → fine (j .refusal) ≡ true
+    → (fine (x .refusal) ≡ true) × WellFormed (x .form) × (judgeOf (x .form) ≡ None)
+record-good s bytes x back j q t =
+    let a = record-accepted s bytes j q t in
+    subst (λ (y : Record). (fine (y .refusal) ≡ true) × WellFormed (y .form) × (judgeOf (y .form) ≡ None)) (sym back)
+    (a .0, read-well-formed s bytes (a .0), a .1)
+
+-- what the judge refuses of a record is refused of its rotation
+pub rotate-unjudged : (s out : List ℕ) (z : ℕ) (j : verdict.Judged) → RecordJudgement s j → fine (j .refusal) ≡ false
+    → RecordScheduled (rotateAsked z) (rotatedBy z) unturned s out out (record { refusal = j .refusal; size = 0; rotations = 0; cycle = j .cycle })
+unfolding judgeRecord scheduleRecord rotateAsked
+rotate-unjudged s out z j q b = record {
+  refusal = go (fine (readForm s .refusal)) refl;
+  size = sym (pick-false (fine (j .refusal)) _ _ b);
+  rotations = sym (pick-false (fine (j .refusal)) _ _ b);
+  buffer = sym (pick-false (fine (j .refusal)) _ _ b);
+  handed = q .handed;
+}
+  where
+    go : (t : Bool) → fine (readForm s .refusal) ≡ t → j .refusal ≡ scheduleRecord (rotateAsked z) (rotatedBy z) unturned s (length out)
+    go true e =
+        let f : Form = readForm s .form in
+        let is : j .refusal ≡ judgeOf f = q .refusal ∙ pick-true (fine (readForm s .refusal)) _ _ e in
+        let refused : rotateAsked z f ≡ judgeOf f = pick-false (fine (judgeOf f)) _ _ (sym (ap fine is) ∙ b) in
+        is
+        ∙ sym (pick-true (fine (readForm s .refusal)) _ _ e
+        ∙ pick-false (fine (rotateAsked z f)) _ _ (ap fine refused ∙ sym (ap fine is) ∙ b)
+        ∙ refused)
+    go false e = q .refusal ∙ pick-false (fine (readForm s .refusal)) _ _ e ∙ sym (pick-false (fine (readForm s .refusal)) _ _ e)
+
+module _ (f : Form) (w : WellFormed f) (z : ℕ) (accepted : judgeOf f ≡ None) where
+  judge-fine : fine (judgeOf f) ≡ true
+  unfolding fine
+  judge-fine = ap fine accepted
+
   -- what the judge accepts is legal
-  pub rotate-legal : fine (judgeOf f) ≡ true → turns z (f .length) ≡ true → Legal (loopOf f) (pairOf f) × (1 ≤ z) × (z < f .length)
-  rotate-legal e t =
-      let b = turns-told z (f .length) t in
-      (judge-accepts f w (judged-none (loopOf f) (pairOf f) (judgeOf f) (judged f w) e) .1, b .0, b .1)
+  pub rotate-legal : turns z (f .length) ≡ true → Legal (loopOf f) (pairOf f) × (1 ≤ z) × (z < f .length)
+  rotate-legal t = let b = turns-told z (f .length) t in (judge-accepts f w accepted .1, b .0, b .1)
 
-  module _ (y : verdict.Judged) (j : Judgement f y) where
-    judge-fine : fine (y .refusal) ≡ true → fine (judgeOf f) ≡ true
-    judge-fine e = ap fine (sym (j .refusal)) ∙ e
+  pub rotate-size : turns z (f .length) ≡ false → (n : ℕ) → n ≡ z → (c : Cycle) → c ≡ noCycle
+      → Planned (rotateAsked z) (rotatedBy z) unturned f (record { refusal = Size n; rotations = 0; cycle = c; form = f })
+  unfolding rotateAsked fine
+  rotate-size b n is c none = record {
+    refusal = ap (λ (k : ℕ). Size k) is ∙ sym (pick-true (fine (judgeOf f)) _ _ judge-fine ∙ pick-false (turns z (f .length)) _ _ b);
+    form = λ t. both-ways t refl;
+    rotations = λ t. refl;
+    handed = handed-none _ _ (Size n) c (omega arith) (omega arith) none;
+  }
 
-    -- what the judge accepts comes without a cycle
-    no-cycle : fine (y .refusal) ≡ true → y .cycle ≡ noCycle
-    unfolding fine
-    no-cycle e = j .handed .none (λ q. both-ways e (ap fine q)) (λ q. both-ways e (ap fine q))
+  module _ (t : turns z (f .length) ≡ true) (x : Form) (is : x ≡ rotatedOr f z) (c : Cycle) (none : c ≡ noCycle) where
+    long-is : x .length ≡ rotatedLength f z
+    long-is = ap (λ (g : Form). g .length) is ∙ or-length f z
 
-    pub rotate-unjudged : fine (y .refusal) ≡ false → Planned (rotateAsked z) (rotatedBy z) unturned f (record { refusal = y .refusal; rotations = 0; cycle = y .cycle; form = f })
-    unfolding rotateAsked
-    rotate-unjudged b = record {
-      refusal = j .refusal ∙ sym (pick-false (fine (judgeOf f)) _ _ (ap fine (sym (j .refusal)) ∙ b));
-      form = λ t. both-ways t b;
-      rotations = λ t. refl;
-      handed = j .handed;
+    pub rotate-too-long : 512 < x .length → Planned (rotateAsked z) (rotatedBy z) unturned f (record { refusal = Long; rotations = 0; cycle = c; form = f })
+    unfolding rotateAsked tooLong fine
+    rotate-too-long l = record {
+      refusal =
+          sym (pick-true (fine (judgeOf f)) _ _ judge-fine
+          ∙ pick-true (turns z (f .length)) _ _ t
+          ∙ pick-true (tooLong f z) _ _ (lt-ltb 512 (rotatedLength f z) (omega (arith, long-is))));
+      form = λ q. both-ways q refl;
+      rotations = λ q. refl;
+      handed = handed-none _ _ Long c (omega arith) (omega arith) none;
     }
 
-    module _ (e : fine (y .refusal) ≡ true) where
-      pub rotate-size : turns z (f .length) ≡ false → (n : ℕ) → n ≡ z → Planned (rotateAsked z) (rotatedBy z) unturned f (record { refusal = Size n; rotations = 0; cycle = y .cycle; form = f })
-      unfolding rotateAsked fine
-      rotate-size b n is = record {
-        refusal = ap (λ (k : ℕ). Size k) is ∙ sym (pick-true (fine (judgeOf f)) _ _ (judge-fine e) ∙ pick-false (turns z (f .length)) _ _ b);
-        form = λ t. both-ways t refl;
-        rotations = λ t. refl;
-        handed = handed-none _ _ (Size n) (y .cycle) (omega arith) (omega arith) (no-cycle e);
-      }
-
-      module _ (t : turns z (f .length) ≡ true) (x : Form) (is : x ≡ rotatedOr f z) where
-        long-is : x .length ≡ rotatedLength f z
-        long-is = ap (λ (g : Form). g .length) is ∙ or-length f z
-
-        pub rotate-too-long : 512 < x .length → Planned (rotateAsked z) (rotatedBy z) unturned f (record { refusal = Long; rotations = 0; cycle = y .cycle; form = f })
-        unfolding rotateAsked tooLong fine
-        rotate-too-long l = record {
-          refusal = sym (pick-true (fine (judgeOf f)) _ _ (judge-fine e) ∙ pick-true (turns z (f .length)) _ _ t ∙ pick-true (tooLong f z) _ _ (lt-ltb 512 (rotatedLength f z) (omega (arith, long-is))));
-          form = λ q. both-ways q refl;
-          rotations = λ q. refl;
-          handed = handed-none _ _ Long (y .cycle) (omega arith) (omega arith) (no-cycle e);
+    pub rotate-planned : x .length ≤ 512 → Planned (rotateAsked z) (rotatedBy z) unturned f (record { refusal = None; rotations = 0; cycle = c; form = x })
+    unfolding rotateAsked rotatedOr tooLong
+    rotate-planned l =
+        let short : tooLong f z ≡ false = le-ltb 512 (rotatedLength f z) (omega (arith, long-is)) in
+        record {
+          refusal =
+              sym (pick-true (fine (judgeOf f)) _ _ judge-fine
+              ∙ pick-true (turns z (f .length)) _ _ t
+              ∙ pick-false (tooLong f z) _ _ short);
+          form = λ _. is ∙ pick-false (tooLong f z) _ _ short;
+          rotations = λ _. refl;
+          handed = handed-none _ _ None c (omega arith) (omega arith) none;
         }
-
-        pub rotate-planned : x .length ≤ 512 → Planned (rotateAsked z) (rotatedBy z) unturned f (record { refusal = None; rotations = 0; cycle = y .cycle; form = x })
-        unfolding rotateAsked rotatedOr tooLong
-        rotate-planned l =
-            let short : tooLong f z ≡ false = le-ltb 512 (rotatedLength f z) (omega (arith, long-is)) in
-            record {
-              refusal = sym (pick-true (fine (judgeOf f)) _ _ (judge-fine e) ∙ pick-true (turns z (f .length)) _ _ t ∙ pick-false (tooLong f z) _ _ short);
-              form = λ _. is ∙ pick-false (tooLong f z) _ _ short;
-              rotations = λ _. refl;
-              handed = handed-none _ _ None (y .cycle) (omega arith) (omega arith) (no-cycle e);
-            }
 
 -- where nothing is refused, the judge accepts, the steps can be rotated, and the rotation is not too long
 asked-told : (z : ℕ) (f : Form) → fine (rotateAsked z f) ≡ true → (fine (judgeOf f) ≡ true) × (turns z (f .length) ≡ true) × (tooLong f z ≡ false)
@@ -130,5 +171,5 @@ asked-told z f e = go (fine (judgeOf f)) (turns z (f .length)) (tooLong f z) ref
 pub rotate-writes : (z : ℕ) (f : Form) → WellFormed f → Held f → fine (rotateAsked z f) ≡ true → (room : ℕ) → (refusalOf (rotatedBy z f) room ≡ None) ⊎ (refusalOf (rotatedBy z f) room ≡ Room 0)
 rotate-writes z f w h e room =
     let a = asked-told z f e in
-    let l = rotate-legal f w z (a .0) (a .1) in
+    let l = rotate-legal f w z (judged-none (loopOf f) (pairOf f) (judgeOf f) (judged f w) (a .0)) (a .1) in
     rotated-written f w (l .0) z (l .1) (l .2) (h .sized .start) (a .2) h room

@@ -7,11 +7,13 @@ ghost use lib.Dec.{leb};
 ghost use lib.ListN.{getD};
 ghost use Rattle.lists.specs.Pick.{pick};
 ghost use Rattle.answer.specs.Refused.{fine};
+ghost use Rattle.answer.specs.declared.Refusal.the-variants.{None};
 ghost use Rattle.form.specs.Ranges.{WellFormed};
 ghost use Rattle.reader.specs.Reading.{readForm};
 ghost use Rattle.writer.specs.Layout.{layout};
 ghost use Rattle.legal.specs.Legal.{Legal};
 ghost use Rattle.legal.specs.Loop.{loopOf, pairOf};
+ghost use Rattle.legal.specs.Judging.{judgeOf};
 ghost use Rattle.legal.specs.Systems.{knotted};
 ghost use Rattle.list_rule.specs.Rule.{startAt, lengthOf};
 ghost use Rattle.list_rule.specs.Tables.{numbersOf};
@@ -243,27 +245,16 @@ fn turns_by(steps: u16, length: u16) -> bool
     steps < length
 }
 
-// What the judge refuses, then Size, then Long; else the form rotated.
+// Of a form that the judge accepts: Size, then Long, else the form rotated.
 fn rotate_plan(form: Form, steps: u16) -> Plan
-    requires { ⌜ WellFormed form ⌝ }
+    requires { ⌜ WellFormed form × (judgeOf form ≡ None) ⌝ }
     ensures { λ r. ⌜ Planned (rotateAsked steps) (rotatedBy steps) unturned form r ⌝ }
 {
-    let judged = judge::judge_form(form);
-    let unjudged = judged.refusal;
-    let cycle = judged.cycle;
-    if !unjudged.is_fine() {
-        return Plan {
-            refusal: unjudged,
-            rotations: 0,
-            cycle,
-            form,
-        };
-    }
     if !turns_by(steps, form.length) {
         return Plan {
             refusal: Refusal::Size(steps as u32),
             rotations: 0,
-            cycle,
+            cycle: Cycle::none(),
             form,
         };
     }
@@ -272,32 +263,34 @@ fn rotate_plan(form: Form, steps: u16) -> Plan
         return Plan {
             refusal: Refusal::Long,
             rotations: 0,
-            cycle,
+            cycle: Cycle::none(),
             form,
         };
     }
     Plan {
         refusal: Refusal::None,
         rotations: 0,
-        cycle,
+        cycle: Cycle::none(),
         form: turned,
     }
 }
 
-// The record rotated by so many steps, into `out`; a refusal leaves `out` as it was.
+// The record rotated by so many steps, into `out`; a refusal leaves `out` as it was. What the judge refuses comes first.
 pub fn rotate(record: &[u8], steps: u16, out: &mut [u8]) -> Scheduled
     ensures { λ r. ⌜ RecordScheduled (rotateAsked steps) (rotatedBy steps) unturned (now («record» .entry)) (now (out .entry)) (now (out .exit)) r ⌝ }
 {
-    let read = reader::read(record);
-    let refused = read.refusal;
+    let judged = judge::judge(record);
+    let refused = judged.refusal;
+    let cycle = judged.cycle;
     if !refused.is_fine() {
         return Scheduled {
             refusal: refused,
             size: 0,
             rotations: 0,
-            cycle: Cycle::none(),
+            cycle,
         };
     }
+    let read = reader::read(record);
     let form = read.form;
     write_plan(rotate_plan(form, steps), out)
 }
