@@ -1,7 +1,7 @@
 #!/usr/bin/env python3
 """Prints the lines of code, definitions and laws, and proofs of each crate, and how long the gate takes,
-as docs/SIZES.md has them. Run from the repository's root on what .ci/run printed:
-python3 tools/sizes.py LOG > docs/SIZES.md"""
+as docs/SIZES.md has them. Run from the repository's root on what .ci/run printed, or on what its parts
+printed one by one (`rt prove`, `rt must-fail NAME..`): python3 tools/sizes.py LOG.. > docs/SIZES.md"""
 
 import glob
 import os
@@ -17,18 +17,21 @@ def lines(*patterns):
 def seconds(log):
     """Of each crate: seconds to prove it, and seconds for all its edits."""
     proved = {name: int(s) for name, s in re.findall(r"^rt: (\w+) proved \((\d+) s\)", log, re.M)}
+    tried = {edit: int(s) for edit, s in re.findall(r"^rt: must-fail (\w+/\w+): refused.*; (\d+) s\)", log, re.M)}
     edits = {}
-    for name, s in re.findall(r"^rt: must-fail (\w+)/\w+: refused.*; (\d+) s\)", log, re.M):
-        edits[name] = edits.get(name, 0) + int(s)
+    for edit, s in tried.items():
+        name = edit.split("/")[0]
+        edits[name] = edits.get(name, 0) + s
     return proved, edits
 
 
 def main():
-    log = open(sys.argv[1]).read()
+    log = "".join(open(path).read() for path in sys.argv[1:])
     proved, edits = seconds(log)
-    took = re.search(r"^the gate took (.*)$", log, re.M).group(1)
+    took = re.search(r"^the gate took (.*)$", log, re.M)
+    whole = f" The whole gate took {took.group(1)} on two cores." if took else ""
     print("# Sizes and times\n")
-    print(f"Lines by crate, and seconds of the gate's last run, which took {took} on two cores. Written by `tools/sizes.py`.\n")
+    print(f"Lines by crate, and seconds to prove it and to try its edits, two at a time.{whole} Written by `tools/sizes.py`.\n")
     print("| Crate | Code | Definitions and laws | Proofs of functions | Edits | Proved in | Edits tried in |")
     print("|---|---|---|---|---|---|---|")
     total = [0] * 6
