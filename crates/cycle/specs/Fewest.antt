@@ -1,19 +1,19 @@
 -- Losing closed walks: one that meets a node twice splits into two, and one of these loses.
 -- So one with the fewest edges is a cycle, and where there is any there is one with no more edges than nodes.
 -- Assumes nothing.
-use mathlib.Core.Path.{_≡_, sym, _∙_, ap, subst}
-use mathlib.Core.List.{List, [], _∷_, _++_}
-use Prim.Native.Nat.{ℕ, zero, suc, _+_, _-_, _≤_, _<_}
-use lib.ListN.{length, take, drop, length-append, length-take, length-drop}
+use mathlib.Core.Path.{_≡_, sym, _∙_, subst}
+use mathlib.Core.List.{List, [], _∷_}
+use Prim.Native.Nat.{ℕ, zero, suc, _-_, _≤_, _<_}
+use lib.ListN.{length}
 use native.Mathlib.Omega.{arith}
-use native.Mathlib.Decide.{decLe, decLt}
-use native.Mathlib.Nat.{not-suc-le-zero, le-of-suc-le-suc}
+use native.Mathlib.Decide.{decLe}
+use native.Mathlib.Nat.{not-suc-le-zero}
 use Rattle.lists.specs.Fold.{sumOf}
 use Rattle.lists.specs.Pigeon.{pigeon, Twice}
 use Rattle.system.specs.Graph.{Graph, Joined, Walk, stop}
 use Rattle.system.specs.System.{System, gains, costs, LosingWalk, Shortest}
-use Rattle.system.specs.Walks.{node, walk-take, walk-drop, walk-join, node-drop, node-in, sum-cut}
-use Rattle.system.specs.Shorter.{node-stop, Shorter, shorter, losing-some}
+use Rattle.system.specs.Walks.{node, node-in}
+use Rattle.system.specs.Shorter.{node-stop, shorter, losing-some}
 
 -- it begins at a node of the graph
 pub losing-from : (s : System) → Joined (s .graph) → (es : List ℕ) (w : LosingWalk s es) → w .from < s .graph .nodes

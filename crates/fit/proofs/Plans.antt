@@ -11,7 +11,6 @@ use lib.Dec.{eqb, leb}
 use lib.ListN.{length}
 use lib.Seq.{sets}
 use Rattle.lists.specs.Pick.{pick, pick-ind, pick-true, pick-false, both-ways}
-use Rattle.lists.specs.Place.{zeros-at}
 use Rattle.answer.specs.Refused.{numberOf, fine}
 use Rattle.answer.specs.Outcome.{noCycle}
 use Rattle.answer.specs.declared.Cycle.{Cycle}
@@ -33,12 +32,13 @@ use Rattle.legal.specs.Systems.{knotted, limits}
 use Rattle.legal.specs.Judging.{overStep, unitsOf}
 use Rattle.legal.specs.Handed.{Handed, handed-none}
 use Rattle.knots.specs.Found.{KnotFound}
-use Rattle.judge.specs.Early.{read-early}
+use Rattle.record.specs.Early.{read-early}
 use Rattle.fit.specs.declared.Fitting.{Fitting}
 use Rattle.fit.specs.declared.Fitted.{Fitted}
 use Rattle.fit.specs.Retimed.{withRetiming, fittedForm, StartsFitted}
 use Rattle.fit.specs.Fitting.{fitOf, fitRecord, fitBuffer, RecordFitted}
-use Rattle.fit.specs.Planned.{Plan, Planned}
+use Rattle.fit.specs.declared.Plan.{Plan}
+use Rattle.fit.specs.Planned.{Planned}
 use Rattle.fit.specs.Laws.{Told, bare, knot, unfit, units, fits, past-knots, fit-told, fit-none, fitted-taken, fitted-written}
 
 -- ---- a form
@@ -48,18 +48,18 @@ unfolding unitsOf
 units-number g p = pick-ind (λ r. (numberOf r ≢ 12) × (numberOf r ≢ 14)) (leb (overStep g p) (p .length)) _ _ (λ e. (omega arith, omega arith)) (λ e. (omega arith, omega arith))
 
 module _ (f : Form) where
-  pub plan-bare : f .length ≡ 0 → (c : Cycle) → c ≡ noCycle → Planned f (record { refusal = Bare; cycle = c; form = f })
+  pub plan-bare : f .length ≡ 0 → (c : Cycle) → c ≡ noCycle → (rs : List ℕ) → Planned f (record { refusal = Bare; retiming = rs; cycle = c })
   unfolding fitOf fine
-  plan-bare z c e = record {
+  plan-bare z c e rs = record {
     refusal = sym (pick-true (eqb (f .length) 0) _ _ (eq-eqb _ _ z));
     form = λ q. both-ways q refl;
     handed = handed-none (loopOf f) (pairOf f) Bare c (omega arith) (omega arith) e;
   }
 
   module _ (n : f .length ≢ 0) (k : Cycle) (found : KnotFound (loopOf f) k) where
-    pub plan-knot : 0 < k .count → Planned f (record { refusal = Knot; cycle = k; form = f })
+    pub plan-knot : 0 < k .count → (rs : List ℕ) → Planned f (record { refusal = Knot; retiming = rs; cycle = k })
     unfolding fitOf fine
-    plan-knot l = record {
+    plan-knot l rs = record {
       refusal = sym (pick-false (eqb (f .length) 0) _ _ (ne-eqb _ _ n) ∙ pick-true (knotted (loopOf f)) _ _ (found .tied l));
       form = λ q. both-ways q refl;
       handed = record {
@@ -74,9 +74,9 @@ module _ (f : Form) where
       by-limits : fitOf f ≡ pick (settledOf (limits (loopOf f) (pairOf f)) .settled) (unitsOf (loopOf f) (pairOf f)) NoRetiming
       by-limits = past-knots f n (found .free (omega arith))
 
-      pub plan-unfit : t .fits ≡ false → Planned f (record { refusal = NoRetiming; cycle = t .cycle; form = f })
+      pub plan-unfit : t .fits ≡ false → (rs : List ℕ) → Planned f (record { refusal = NoRetiming; retiming = rs; cycle = t .cycle })
       unfolding fine
-      plan-unfit b = record {
+      plan-unfit b rs = record {
         refusal = sym (by-limits ∙ pick-false _ _ _ (sym (s .fits) ∙ b));
         form = λ q. both-ways q refl;
         handed = record {
@@ -87,14 +87,14 @@ module _ (f : Form) where
         };
       }
 
-      pub plan-fits : t .fits ≡ true → (r : Refusal) → r ≡ unitsOf (loopOf f) (pairOf f) → (h : Form) → h ≡ withRetiming f (t .retiming)
-          → Planned f (record { refusal = r; cycle = t .cycle; form = h })
+      pub plan-fits : t .fits ≡ true → (r : Refusal) → r ≡ unitsOf (loopOf f) (pairOf f)
+          → Planned f (record { refusal = r; retiming = t .retiming; cycle = t .cycle })
       unfolding fittedForm
-      plan-fits b r is h e =
+      plan-fits b r is =
           let u = units-number (loopOf f) (pairOf f) in
           record {
             refusal = is ∙ sym (by-limits ∙ pick-true _ _ _ (sym (s .fits) ∙ b));
-            form = λ _. e ∙ ap (withRetiming f) (s .retiming b);
+            form = λ _. ap (withRetiming f) (s .retiming b);
             handed = handed-none (loopOf f) (pairOf f) r (t .cycle) (λ q. u .0 (sym (ap numberOf is) ∙ q)) (λ q. u .1 (sym (ap numberOf is) ∙ q)) (s .none b);
           }
 
@@ -156,7 +156,14 @@ module _ (s out : List ℕ) where
             pick-true (fine (readForm s .refusal)) _ _ read-fine ∙ pick-false (fine (fitOf (readForm s .form))) _ _ (ap fine (sym (plan .refusal)) ∙ b) in
             refused (y .refusal) (y .cycle) (plan .refusal ∙ sym is) b (plan .handed)
 
+        -- the form to be written
+        abbrev next : Form
+        next = withRetiming (x .form) (y .retiming)
+
         module _ (b : fine (y .refusal) ≡ true) where
+          is-next : next ≡ fittedForm (readForm s .form)
+          is-next = planned .form b ∙ ap (λ (r : Record). fittedForm (r .form)) back
+
           fit-fine : fine (fitOf (readForm s .form)) ≡ true
           fit-fine = ap fine (sym (plan .refusal)) ∙ b
 
@@ -164,11 +171,11 @@ module _ (s out : List ℕ) where
           none = told-none _ _ _ (fit-told (readForm s .form) (read-well-formed s bytes read-fine)) fit-fine
 
           -- the reader takes the bytes of the form with the retiming found
-          pub fit-taken : fine (readForm (layout (y .form)) .refusal) ≡ true
+          pub fit-taken : fine (readForm (layout (next)) .refusal) ≡ true
           fit-taken =
               let w = read-well-formed s bytes read-fine in
               let t = fit-none (readForm s .form) w none in
-              subst (λ (f : Form). fine (readForm (layout f) .refusal) ≡ true) (sym (plan .form b))
+              subst (λ (f : Form). fine (readForm (layout f) .refusal) ≡ true) (sym (is-next))
               (fitted-taken (readForm s .form) w (t .0) (t .2) (read-held s bytes read-fine))
 
           writes : fitRecord s (length out) ≡ refusalOf (fittedForm (readForm s .form)) (length out)
@@ -186,19 +193,19 @@ module _ (s out : List ℕ) where
           y-none = plan .refusal ∙ none
 
           -- what the writer makes of the form with the retiming found
-          fit-written : (z : Written) (last : List ℕ) → z ≡ written (y .form) (length out) → last ≡ bufferAfter (y .form) out
+          fit-written : (z : Written) (last : List ℕ) → z ≡ written (next) (length out) → last ≡ bufferAfter (next) out
               → RecordFitted s out last (record { refusal = z .refusal; size = z .size; cycle = y .cycle })
           unfolding fitBuffer written bufferAfter
           fit-written z last is-z is-last =
               let f : Form = fittedForm (readForm s .form) in
-              let same : z ≡ written f (length out) = is-z ∙ ap (λ (h : Form). written h (length out)) (plan .form b) in
+              let same : z ≡ written f (length out) = is-z ∙ ap (λ (h : Form). written h (length out)) (is-next) in
               let refusal : z .refusal ≡ refusalOf f (length out) = ap (λ (w : Written). w .refusal) same in
               record {
                 refusal = refusal ∙ sym writes;
                 size = ap (λ (w : Written). w .size) same ∙ sym (rw refusal (pick-twice (fine (refusalOf f (length out))) (length (layout f)) 0));
-                buffer = is-last ∙ rw (plan .form b, writes) (sym (pick-twice (fine (refusalOf f (length out))) (sets out 0 (layout f)) out));
+                buffer = is-last ∙ rw (is-next, writes) (sym (pick-twice (fine (refusalOf f (length out))) (sets out 0 (layout f)) out));
                 handed = handed-none _ _ (z .refusal) (y .cycle) (rw refusal (unproved .0)) (rw refusal (unproved .1)) (plan .handed .none (λ q. omega (arith, ap numberOf (sym y-none ∙ q))) (λ q. omega (arith, ap numberOf (sym y-none ∙ q))));
               }
 
-          pub fit-answered : (a : Fitted) (last : List ℕ) → a ≡ answer (y .form) (y .cycle) (length out) → last ≡ bufferAfter (y .form) out → RecordFitted s out last a
-          fit-answered a last is is-last = subst (RecordFitted s out last) (sym is) (fit-written (written (y .form) (length out)) last refl is-last)
+          pub fit-answered : (a : Fitted) (last : List ℕ) → a ≡ answer (next) (y .cycle) (length out) → last ≡ bufferAfter (next) out → RecordFitted s out last a
+          fit-answered a last is is-last = subst (RecordFitted s out last) (sym is) (fit-written (written (next) (length out)) last refl is-last)

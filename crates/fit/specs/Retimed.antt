@@ -2,10 +2,10 @@
 -- Assumes nothing.
 use mathlib.Core.Path.{_≡_}
 use mathlib.Core.Bool.{true, false}
-use mathlib.Core.List.{List, _++_, map}
-use Prim.Native.Nat.{ℕ, _-_}
+use mathlib.Core.List.{List}
+use Prim.Native.Nat.{ℕ}
 use lib.ListN.{replicate}
-use Rattle.lists.specs.Span.{span}
+use Rattle.lists.specs.Filled.{filled}
 use Rattle.answer.specs.Outcome.{noCycle, edgesOf, Filled}
 use Rattle.system.specs.Rounds.{settledOf}
 use Rattle.form.specs.declared.Form.{Form}
@@ -17,7 +17,7 @@ use Rattle.fit.specs.Tables.{Described}
 
 -- of least depth, and node by node the largest of those; unused places are 0
 unfoldable pub retimings : Loop → Pair → List ℕ
-retimings g p = map (fitted g p) (span 0 (g .graph .nodes)) ++ replicate (64 - g .graph .nodes) 0
+retimings g p = filled 64 (fitted g p) (g .graph .nodes)
 
 -- the form with another retiming
 unfoldable pub withRetiming : Form → List ℕ → Form
@@ -47,6 +47,6 @@ pub record StartsFitted (g : Loop) (p : Pair) (r : Fitting) : Type 0 where
   pub impossible : r .fits ≡ false → Impossible g p (edgesOf (r .cycle))
   pub filled : Filled (r .cycle)
 
--- whichever form the tables are of, its starts are fitted
+-- whichever loop and starts the tables are of, they are fitted
 abbrev pub TablesFitted : ℕ → ℕ → List ℕ → List ℕ → List ℕ → List ℕ → Fitting → Type 0
-TablesFitted n m tails heads gains costs r = (f : Form) → Described f n m tails heads gains costs → StartsFitted (loopOf f) (pairOf f) r
+TablesFitted n m tails heads gains costs r = (g : Loop) (p : Pair) → Described g p n m tails heads gains costs → StartsFitted g p r

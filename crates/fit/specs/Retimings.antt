@@ -1,17 +1,12 @@
 -- The retiming found as a list: it fits, is of least depth and node by node the largest of those.
 -- Assumes nothing.
-use mathlib.Core.Path.{_≡_, ap, _∙_}
-use mathlib.Core.List.{List, map}
-use Prim.Native.Nat.{ℕ, zero, suc, _+_, _-_, _≤_, _<_}
+use mathlib.Core.Path.{_≡_, _∙_}
+use Prim.Native.Nat.{ℕ, _-_, _≤_, _<_}
 use native.Mathlib.Decide.{decLt}
-use native.Mathlib.Nat.{add-zero, add-suc, suc-add, zero-add, not-suc-le-zero, le-of-suc-le-suc}
 use native.Mathlib.Omega.{arith}
-use lib.ListN.{length, getD, length-map, length-append, length-replicate, List·getD-append}
-use lib.Seq.{getD-append-add}
-use Rattle.lists.specs.Span.{span, span-length}
+use lib.ListN.{length, getD}
 use Rattle.lists.specs.Fold.{top, top-over, top-attained}
-use Rattle.lists.specs.Mapped.{mapped-at}
-use Rattle.lists.specs.Place.{zeros-at}
+use Rattle.lists.specs.Filled.{filled-at, filled-past, filled-length}
 use Rattle.legal.specs.Loop.{Loop, Pair}
 use Rattle.legal.specs.Legal.{UnitRule, Legal, busy, occupies}
 use Rattle.legal.specs.Systems.{lateness, Fits}
@@ -21,28 +16,19 @@ use Rattle.legal.specs.Fitted.{depth, fitted, Settles, fitted-fits, depth-bound
 use Rattle.fit.specs.Retimed.{retimings}
 
 module _ (g : Loop) (p : Pair) where
-  front-length : length (map (fitted g p) (span 0 (g .graph .nodes))) ≡ g .graph .nodes
-  front-length = length-map (span 0 (g .graph .nodes)) (fitted g p) ∙ span-length 0 (g .graph .nodes)
-
   pub retimings-length : g .graph .nodes ≤ 64 → length (retimings g p) ≡ 64
   unfolding retimings
-  retimings-length n =
-      let z : ℕ = 0 in
-      rw length-append (omega (arith, front-length, length-replicate (64 - g .graph .nodes) z))
+  retimings-length = filled-length 64 (fitted g p) (g .graph .nodes)
 
   -- each node has what was found for it
   pub retimings-at : (v : ℕ) → v < g .graph .nodes → getD (retimings g p) v 0 ≡ fitted g p v
   unfolding retimings
-  retimings-at v l =
-      List·getD-append (map (fitted g p) (span 0 (g .graph .nodes))) _ 0 v (omega (arith, front-length)) ∙ mapped-at (fitted g p) 0 (g .graph .nodes) v l ∙ rw zero-add
+  retimings-at = filled-at 64 (fitted g p) (g .graph .nodes)
 
   -- and the places past them 0
   pub retimings-past : (v : ℕ) → g .graph .nodes ≤ v → _≡_ {A = ℕ} (getD (retimings g p) v 0) 0
   unfolding retimings
-  retimings-past v l =
-      let front : List ℕ = map (fitted g p) (span 0 (g .graph .nodes)) in
-      let e : v ≡ length front + (v - g .graph .nodes) = omega (arith, front-length) in
-      ap (λ (k : ℕ). getD (retimings g p) k 0) e ∙ getD-append-add front _ (v - g .graph .nodes) 0 ∙ zeros-at (64 - g .graph .nodes) (v - g .graph .nodes)
+  retimings-past = filled-past 64 (fitted g p) (g .graph .nodes)
 
   -- the starts with that retiming
   abbrev pub retimedPair : Pair

@@ -1,33 +1,45 @@
 -- The tables that a fit fills: what each edge gains and costs, and how far each node is below the top.
 -- Assumes nothing.
-use mathlib.Core.Path.{_≡_}
-use mathlib.Core.List.{List, _++_, map}
+use mathlib.Core.Path.{_≡_, sym}
+use mathlib.Core.List.{List}
 use Prim.Native.Nat.{ℕ, _-_, _<_}
-use lib.ListN.{getD, replicate}
-use Rattle.lists.specs.Span.{span}
-use Rattle.form.specs.declared.Form.{Form}
-use Rattle.form.specs.Ranges.{WellFormed}
-use Rattle.legal.specs.Loop.{loopOf, pairOf}
+use lib.ListN.{getD}
+use Rattle.lists.specs.Filled.{filled}
+use Rattle.legal.specs.Loop.{Loop, Pair}
 use Rattle.legal.specs.Systems.{lateness}
+use Rattle.legal.specs.Shape.{Sound}
+use Rattle.tables.specs.Edges.{Told}
 
 -- the tables hold the delays and the lateness of the first n edges
-pub record Limited (f : Form) (n : ℕ) (gains costs : List ℕ) : Type 0 where
-  pub gain : (e : ℕ) → e < n → getD gains e 0 ≡ getD (f .delays) e 0
-  pub cost : (e : ℕ) → e < n → getD costs e 0 ≡ lateness (loopOf f) (pairOf f) e
+pub record Limited (g : Loop) (p : Pair) (n : ℕ) (gains costs : List ℕ) : Type 0 where
+  pub gain : (e : ℕ) → e < n → getD gains e 0 ≡ g .delay e
+  pub cost : (e : ℕ) → e < n → getD costs e 0 ≡ lateness g p e
 
 -- how far each of the first n values is below h; 0 past them
 unfoldable pub turnedOver : ℕ → List ℕ → ℕ → List ℕ
-turnedOver h ys n = map (λ v. h - getD ys v 0) (span 0 n) ++ replicate (64 - n) 0
+turnedOver h ys n = filled 64 (λ v. h - getD ys v 0) n
 
--- the tables are those of a well-formed form and its limits
-pub record Described (f : Form) (n m : ℕ) (tails heads gains costs : List ℕ) : Type 0 where
-  pub good : WellFormed f
-  pub all-nodes : f .nodes ≡ n
-  pub all-edges : f .edges ≡ m
-  pub all-tails : f .from ≡ tails
-  pub all-heads : f .to ≡ heads
-  pub limited : Limited f (f .edges) gains costs
+-- the tables are the edges of a loop with latencies 1 to 8, and the limits of its starts
+pub record Described (g : Loop) (p : Pair) (n m : ℕ) (tails heads gains costs : List ℕ) : Type 0 where
+  pub sound : Sound g
+  pub told : Told g n m tails heads gains
+  pub late : (e : ℕ) → e < m → getD costs e 0 ≡ lateness g p e
 
 -- of one at least
 abbrev pub Tabled : ℕ → ℕ → List ℕ → List ℕ → List ℕ → List ℕ → Type 0
-Tabled n m tails heads gains costs = (f : Form) × Described f n m tails heads gains costs
+Tabled n m tails heads gains costs = (g : Loop) × ((p : Pair) × Described g p n m tails heads gains costs)
+
+-- edges that are told, with their delays and lateness, are such tables
+pub described : (g : Loop) (p : Pair) (n m : ℕ) (tails heads delays gains costs : List ℕ)
+    → Sound g → Told g n m tails heads delays → Limited g p m gains costs → Described g p n m tails heads gains costs
+described g p n m tails heads delays gains costs sound told limited = record {
+  sound = sound;
+  told = record {
+    all-nodes = told .all-nodes;
+    all-edges = told .all-edges;
+    is-tail = told .is-tail;
+    is-head = told .is-head;
+    is-delay = λ e l. sym (limited .gain e l);
+  };
+  late = limited .cost;
+}

@@ -4,22 +4,27 @@ ghost use mathlib.Core.Logic.{_≢_};
 ghost use mathlib.Core.Path.{_≡_};
 ghost use Prim.Native.Nat.{ℕ, _+_, _≤_, _<_};
 ghost use lib.Dec.{leb};
-ghost use lib.ListN.{length, getD, take};
+ghost use lib.ListN.{length, getD, take, replicate};
 ghost use Rattle.lists.specs.Pick.{pick};
 ghost use Rattle.lists.specs.Fold.{top};
+ghost use Rattle.form.specs.declared.Form.{Form};
 ghost use Rattle.answer.specs.Refused.{fine};
 ghost use Rattle.form.specs.Ranges.{WellFormed};
-ghost use Rattle.legal.specs.Loop.{loopOf, pairOf};
+ghost use Rattle.legal.specs.Loop.{Loop, Pair, loopOf, pairOf};
+ghost use Rattle.tables.specs.Edges.{Ends, Told};
+ghost use Rattle.tables.specs.Times.{Timed};
+ghost use Rattle.tables.specs.Lent.{Lent};
 ghost use Rattle.reader.specs.Reading.{readForm};
 ghost use Rattle.writer.specs.Layout.{layout};
 ghost use Rattle.writer.specs.Writing.{bufferAfter};
 ghost use Rattle.fit.specs.Tables.{Limited, turnedOver, Tabled};
 ghost use Rattle.fit.specs.Retimed.{withRetiming, StartsFitted, TablesFitted};
-ghost use Rattle.fit.specs.Planned.{fittedAnswer};
+ghost use Rattle.fit.specs.Planned.{Planned, fittedAnswer};
 ghost use Rattle.fit.specs.Fitting.{RecordFitted};
 use answer::Cycle;
 use answer::Refusal;
 use form::Form;
+use tables::Timetable;
 
 // The retiming where one fits, all 0 else; the cycle that proves that none does.
 pub struct Fitting {
@@ -33,6 +38,13 @@ pub struct Fitted {
     pub refusal: Refusal,
     pub size: u32,
     pub cycle: Cycle,
+}
+
+// What becomes of a form: the retiming that fits, or the refusal with its cycle and retimings 0.
+struct Plan {
+    refusal: Refusal,
+    retiming: [u8; 64],
+    cycle: Cycle,
 }
 
 // What each edge gains and costs the retimings, in tables that can be lent.
@@ -59,21 +71,25 @@ fn late(start: u16, latency: u8, next: u16) -> u16
 }
 
 // The delays of the edges, and which of them are late by a body.
-fn limits_of(form: Form) -> Limits
-    requires { ⌜ WellFormed form ⌝ }
-    ensures { λ t. ⌜ Limited form (form .edges) (t .gains) (t .costs) ⌝ }
+fn limits_of<'a>(
+    edges: u16,
+    from: &'a [u8; 256],
+    to: &'a [u8; 256],
+    delays: &'a [u8; 256],
+    times: Timetable,
+) -> Limits
+    requires { ⌜ Ends (times .nodes) edges (now from) (now to) ⌝ }
+    ensures { λ t. ⌜ ((g : Loop) (p : Pair) → Told g (times .nodes) edges (now (from .entry)) (now (to .entry)) (now (delays .entry)) → Timed g p times → Limited g p edges (t .gains) (t .costs)) ⌝ }
 {
     let mut gains = [0u16; 256];
     let mut costs = [0u16; 256];
-    let edges = form.edges as usize;
     let mut e: usize = 0;
-    while e < edges {
-        let tail = form.from[e] as usize;
-        let head = form.to[e] as usize;
-        let class = form.class[form.node[tail].class as usize];
-        let delays = wide(form.delays[e]);
-        let cost = late(form.start[tail].0, class.latency, form.start[head].0);
-        gains[e] = delays;
+    while e < edges as usize {
+        let tail = from[e] as usize;
+        let head = to[e] as usize;
+        let gain = wide(delays[e]);
+        let cost = late(times.start[tail], times.latency[tail], times.start[head]);
+        gains[e] = gain;
         costs[e] = cost;
         e += 1;
     }
@@ -143,21 +159,65 @@ pub fn fit_starts(form: Form) -> Fitting
     requires { ⌜ form .length ≢ 0 ⌝ }
     ensures { λ r. ⌜ StartsFitted (loopOf form) (pairOf form) r ⌝ }
 {
-    let limits = limits_of(form);
+    let times = tables::times_of(form);
+    let limits = limits_of(form.edges, &form.from, &form.to, &form.delays, times);
     fit_limits(form.nodes, form.edges, &form.from, &form.to, limits)
 }
 
-// The form's record with the retiming that fits, into `out`.
-fn write_fitted(mut form: Form, fitting: Fitting, out: &mut [u8]) -> Fitted
-    requires { ⌜ fine (readForm (layout (withRetiming form (fitting .retiming))) .refusal) ≡ true ⌝ }
-    ensures { λ r. ⌜ r ≡ fittedAnswer form fitting (length (now (out .entry))) ⌝ }
-    ensures { λ _. ⌜ now (out .exit) ≡ bufferAfter (withRetiming form (fitting .retiming)) (now (out .entry)) ⌝ }
+// A refusal of a form, and the cycle that proves it.
+fn unplanned(refusal: Refusal, cycle: Cycle) -> Plan
+    ensures { λ r. ⌜ r ≡ record { refusal = refusal; retiming = replicate 64 0; cycle = cycle } ⌝ }
 {
+    Plan {
+        refusal,
+        retiming: [0; 64],
+        cycle,
+    }
+}
+
+// Bare, Knot, NoRetiming, Units, else the retiming that fits. The unit rule asks the starts alone.
+fn plan_tables<'a>(
+    edges: u16,
+    from: &'a [u8; 256],
+    to: &'a [u8; 256],
+    delays: &'a [u8; 256],
+    times: Timetable,
+) -> Plan
+    requires { ⌜ ((f : Form) × Lent f edges (now from) (now to) (now delays) times) ⌝ }
+    ensures { λ r. ⌜ ((f : Form) → Lent f edges (now (from .entry)) (now (to .entry)) (now (delays .entry)) times → Planned f r) ⌝ }
+{
+    if times.length == 0 {
+        return unplanned(Refusal::Bare, Cycle::none());
+    }
+    let knot = knots::knot_of(times.nodes, edges, from, to, delays);
+    if 0 < knot.count {
+        return unplanned(Refusal::Knot, knot);
+    }
+    let limits = limits_of(edges, from, to, delays, times);
+    let fitting = fit_limits(times.nodes, edges, from, to, limits);
+    let cycle = fitting.cycle;
+    if !fitting.fits {
+        return unplanned(Refusal::NoRetiming, cycle);
+    }
     let retiming = fitting.retiming;
+    Plan {
+        refusal: rules::crowded(times),
+        retiming,
+        cycle,
+    }
+}
+
+// The form's record with the retiming that fits, into `out`.
+fn write_fitted(mut form: Form, plan: Plan, out: &mut [u8]) -> Fitted
+    requires { ⌜ fine (readForm (layout (withRetiming form (plan .retiming))) .refusal) ≡ true ⌝ }
+    ensures { λ r. ⌜ r ≡ fittedAnswer form plan (length (now (out .entry))) ⌝ }
+    ensures { λ _. ⌜ now (out .exit) ≡ bufferAfter (withRetiming form (plan .retiming)) (now (out .entry)) ⌝ }
+{
+    let retiming = plan.retiming;
     form.retiming = retiming;
     let written = writer::write_taken(form, out);
     let refusal = written.refusal;
-    let cycle = fitting.cycle;
+    let cycle = plan.cycle;
     Fitted {
         refusal,
         size: written.size,
@@ -176,7 +236,7 @@ fn unfitted(refusal: Refusal, cycle: Cycle) -> Fitted
     }
 }
 
-// The record with a retiming that fits its starts, into `out`; a refusal leaves `out` as it was. The unit rule asks the starts alone.
+// The record with a retiming that fits its starts, into `out`; a refusal leaves `out` as it was.
 pub fn fit(record: &[u8], out: &mut [u8]) -> Fitted
     ensures { λ r. ⌜ RecordFitted (now («record» .entry)) (now (out .entry)) (now (out .exit)) r ⌝ }
 {
@@ -185,30 +245,18 @@ pub fn fit(record: &[u8], out: &mut [u8]) -> Fitted
     if !unread.is_fine() {
         return unfitted(unread, Cycle::none());
     }
-    if read.form.length == 0 {
-        return unfitted(Refusal::Bare, Cycle::none());
-    }
-    let nodes = read.form.nodes;
-    let edges = read.form.edges;
-    let knot = knots::knot_of(
-        nodes,
-        edges,
+    let times = tables::times_of(read.form);
+    let plan = plan_tables(
+        read.form.edges,
         &read.form.from,
         &read.form.to,
         &read.form.delays,
+        times,
     );
-    if 0 < knot.count {
-        return unfitted(Refusal::Knot, knot);
+    let refusal = plan.refusal;
+    let cycle = plan.cycle;
+    if !refusal.is_fine() {
+        return unfitted(refusal, cycle);
     }
-    let limits = limits_of(read.form);
-    let fitting = fit_limits(nodes, edges, &read.form.from, &read.form.to, limits);
-    let cycle = fitting.cycle;
-    if !fitting.fits {
-        return unfitted(Refusal::NoRetiming, cycle);
-    }
-    let crowded = rules::crowded(read.form);
-    if !crowded.is_fine() {
-        return unfitted(crowded, cycle);
-    }
-    write_fitted(read.form, fitting, out)
+    write_fitted(read.form, plan, out)
 }

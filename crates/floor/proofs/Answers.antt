@@ -23,18 +23,21 @@ use Rattle.reader.specs.declared.Record.{Record}
 use Rattle.reader.specs.Reading.{readForm}
 use Rattle.record.specs.Read.{read-well-formed}
 use Rattle.system.specs.System.{Losing}
-use Rattle.legal.specs.Loop.{Loop, graphOf, loopOf, latency as latencyOn}
+use Rattle.legal.specs.Loop.{Loop, Pair, loopOf, latency as latencyOn}
 use Rattle.legal.specs.Systems.{knotted, paces}
 use Rattle.legal.specs.Shape.{sound-form}
 use Rattle.legal.specs.Knots.{unknotted-free}
+use Rattle.tables.specs.declared.Timetable.{Timetable}
+use Rattle.tables.specs.Most.{mostOf}
+use Rattle.tables.specs.Times.{Timed}
 use Rattle.knots.specs.Found.{KnotFound}
-use Rattle.judge.specs.Early.{read-early}
+use Rattle.record.specs.Early.{read-early}
 use Rattle.floor.specs.declared.Part.{Part}
 use Rattle.floor.specs.declared.Part.the-variants as part
 use Rattle.floor.specs.declared.Floored.{Floored}
-use Rattle.floor.specs.Parts.{latencyPart, unitsParts, cyclePart, floorLength}
+use Rattle.floor.specs.Parts.{latencyPart, unitsParts, floorLength}
 use Rattle.floor.specs.Least.{enough, short-less, cycle-one, cycle-512}
-use Rattle.floor.specs.Tables.{Worked, mostOf, Measured}
+use Rattle.floor.specs.Tables.{Measured}
 use Rattle.floor.specs.Floor.{partNumber, partOf, floorRefusal, FloorCycle, FormFloored, floorRecord, RecordFloored}
 use Rattle.floor.specs.Named.{Attains, latency, units, cycle-named, cycle-attained, named-is, cycle-two, floor-short}
 
@@ -43,15 +46,16 @@ use Rattle.floor.specs.Named.{Attains, latency, units, cycle-named, cycl
 top-le : (f g : ℕ → ℕ) (n : ℕ) → ((v : ℕ) → v < n → f v ≡ g v) → top (map f (span 0 n)) ≤ top (map g (span 0 n))
 top-le f g n h = top-under f (top (map g (span 0 n))) n (λ v l. omega (arith, h v l, top-each g n v l))
 
--- the table's largest latency is the loop's
-pub latency-known : (f : Form) (ks ts : List ℕ) → Worked f (f .nodes) ks ts → mostOf ts (f .nodes) ≡ latencyPart (loopOf f)
-unfolding mostOf latencyPart loopOf graphOf
-latency-known f ks ts t =
-    omega (
+-- the timetable's largest latency is the loop's
+pub latency-known : (g : Loop) (p : Pair) (t : Timetable) → Timed g p t → mostOf (t .latency) (t .nodes) ≡ latencyPart g
+unfolding mostOf latencyPart
+latency-known g p t timed =
+    let same : top (map (λ v. getD (t .latency) v 0) (span 0 (t .nodes))) ≡ top (map (latencyOn g) (span 0 (t .nodes))) = omega (
       arith,
-      top-le (λ v. getD ts v 0) (latencyOn (loopOf f)) (f .nodes) (t .latency),
-      top-le (latencyOn (loopOf f)) (λ v. getD ts v 0) (f .nodes) (λ v l. sym (t .latency v l)),
-    )
+      top-le (λ v. getD (t .latency) v 0) (latencyOn g) (t .nodes) (λ v l. sym (timed .takes v l)),
+      top-le (latencyOn g) (λ v. getD (t .latency) v 0) (t .nodes) (timed .takes),
+    ) in
+    same ∙ ap (λ (n : ℕ). top (map (latencyOn g) (span 0 n))) (sym (timed .all-nodes))
 
 module _ (g : Loop) (a b class c inner floor : ℕ) (parts : Measured g a b class c) (is-inner : inner ≡ max b c) (is-floor : floor ≡ max a inner) where
   -- the largest of the three is the floor

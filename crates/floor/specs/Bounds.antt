@@ -1,14 +1,13 @@
 -- Each part of the floor bounds the length of every legal pair, and so does the floor.
 -- Assumes nothing.
-use mathlib.Core.Path.{_≡_}
-use Prim.Native.Nat.{ℕ, _≤_, _<_}
+use Prim.Native.Nat.{_≤_}
 use native.Mathlib.Omega.{arith}
 use Rattle.lists.specs.Sums.{top-each, top-under}
 use Rattle.legal.specs.Loop.{Loop, Pair, latency}
 use Rattle.legal.specs.Legal.{Legal}
 use Rattle.legal.specs.Shape.{Sound}
 use Rattle.legal.specs.Paced.{paces-settle}
-use Rattle.floor.specs.Parts.{latencyPart, unitsParts, cyclePart, floorLength}
+use Rattle.floor.specs.Parts.{latencyPart, cyclePart, floorLength}
 use Rattle.floor.specs.Busy.{all-units-bound}
 use Rattle.floor.specs.Least.{enough, enough-over}
 

@@ -9,7 +9,7 @@ use lib.Dec.{eqb, leb, ltb}
 use borrow.Author.Tests.{eqb-true}
 use Rattle.lists.specs.Pick.{pick, pick-ind}
 use Rattle.lists.specs.Span.{span}
-use Rattle.lists.specs.Fold.{sumOf, sum-times, count}
+use Rattle.lists.specs.Fold.{sumOf, sum-times}
 use Rattle.lists.specs.Sums.{bit, sum-swap, sum-zero, sum-same, sum-le, sum-each, count-sum, window-sum, top-under}
 use Rattle.form.specs.declared.Class.{Class}
 use Rattle.legal.specs.Loop.{Loop, Pair, runsOn, latency, hold}

@@ -1,14 +1,13 @@
 -- (c) is the least length, from 1, at which no cycle has a latency sum above length times delay sum.
 -- Assumes nothing.
-use mathlib.Core.Path.{_≡_, refl, sym, ap, _∙_}
-use mathlib.Core.Bool.{Bool, true, false, true≢false}
+use mathlib.Core.Path.{_≡_, refl}
+use mathlib.Core.Bool.{Bool, true, false}
 use mathlib.Core.Logic.{⊎-elim}
 use mathlib.Core.List.{List}
-use Prim.Native.Nat.{ℕ, _+_, _*_, _≤_, _<_}
+use Prim.Native.Nat.{ℕ, _*_, _≤_, _<_}
 use native.Mathlib.Omega.{arith}
-use native.Mathlib.Decide.{decLe, decLt}
+use native.Mathlib.Decide.{decLe}
 use native.Mathlib.Nat.{eq-zero-or-pos, mul-le-mul-right}
-use lib.ListN.{length}
 use Rattle.lists.specs.Pick.{both-ways}
 use Rattle.lists.specs.Fold.{sumOf, sum-times}
 use Rattle.lists.specs.First.{First, first-is, first-only}
@@ -17,13 +16,12 @@ use Rattle.system.specs.System.{gains, costs, Losing}
 use Rattle.system.specs.Rounds.{settledOf}
 use Rattle.system.specs.Walks.{costs-le}
 use Rattle.system.specs.Laws.{settledAt, settled-solves, solved-settles, unsettled-loses, loses-unsettled}
-use Rattle.legal.specs.Loop.{Loop, Pair, latency}
-use Rattle.legal.specs.Legal.{Legal}
+use Rattle.legal.specs.Loop.{Loop}
 use Rattle.legal.specs.Systems.{paces}
 use Rattle.legal.specs.Shape.{Sound}
 use Rattle.legal.specs.Splits.{losing-cycle, cycle-few}
 use Rattle.legal.specs.Knots.{Free}
-use Rattle.legal.specs.Paced.{latencies, short-loses, paces-settle}
+use Rattle.legal.specs.Paced.{latencies, short-loses}
 use Rattle.floor.specs.Parts.{cyclePart}
 
 module _ (g : Loop) where

@@ -1,7 +1,6 @@
 -- The three parts of the floor: (a) latencies, (b) busy steps over units, (c) cycles. Each by itself bounds the length of every legal pair.
 -- Assumes nothing.
-use mathlib.Core.Bool.{Bool}
-use mathlib.Core.List.{List, map}
+use mathlib.Core.List.{map}
 use Prim.Native.Nat.{ℕ, _+_, _-_, _*_, _/_, max}
 use lib.Dec.{eqb}
 use Rattle.lists.specs.Span.{span}

@@ -4,18 +4,22 @@ ghost use mathlib.Core.Bool.{false};
 ghost use Prim.Native.Nat.{ℕ, _+_, _-_, _*_, _/_, _≤_, _<_, max};
 ghost use lib.ListN.{getD};
 ghost use Rattle.answer.specs.Outcome.{noCycle, edgesOf, Filled};
-ghost use Rattle.form.specs.Ranges.{GoodClass, WellFormed};
+ghost use Rattle.form.specs.declared.Form.{Form};
+ghost use Rattle.form.specs.Ranges.{GoodClass};
 ghost use Rattle.system.specs.System.{Losing};
-ghost use Rattle.legal.specs.Loop.{loopOf, runsOn, hold};
+ghost use Rattle.legal.specs.Loop.{Loop, Pair, loopOf, hold};
 ghost use Rattle.legal.specs.Systems.{knotted, paces};
+ghost use Rattle.tables.specs.Edges.{Told};
+ghost use Rattle.tables.specs.Times.{Sound, Timed};
+ghost use Rattle.tables.specs.Lent.{Lent};
 ghost use Rattle.floor.specs.Parts.{cyclePart};
 ghost use Rattle.floor.specs.Least.{enough};
-ghost use Rattle.floor.specs.Tables.{Worked, mostOf, howMany, Costed, Busy, Measured};
+ghost use Rattle.floor.specs.Tables.{howMany, Edged, Costed, Paced, Busy, Measured};
 ghost use Rattle.floor.specs.Floor.{partNumber, partClass, FormFloored, RecordFloored};
 use answer::Cycle;
 use answer::Refusal;
 use form::Class;
-use form::Form;
+use tables::Timetable;
 
 // What attains the floor: the largest latency, the busy steps of a class, or a cycle. `None`: nothing was worked out.
 pub enum Part {
@@ -31,12 +35,6 @@ pub struct Floored {
     pub floor: u32,
     pub part: Part,
     pub cycle: Cycle,
-}
-
-// The class and the latency of each node, in tables that loops can borrow.
-struct Work {
-    kind: [u8; 64],
-    latency: [u8; 64],
 }
 
 // The most steps that a class needs, and the lowest class that needs them.
@@ -93,40 +91,6 @@ fn larger(a: u16, b: u16) -> u16
     a
 }
 
-// The nodes' classes and latencies; 0 past the nodes.
-fn work_of(form: Form) -> Work
-    requires { ⌜ WellFormed form ⌝ }
-    ensures { λ t. ⌜ Worked form (form .nodes) (t .kind) (t .latency) ⌝ }
-{
-    let mut kind = [0u8; 64];
-    let mut latency = [0u8; 64];
-    let nodes = form.nodes as usize;
-    let mut v: usize = 0;
-    while v < nodes {
-        let number = form.node[v].class;
-        let class = form.class[number as usize];
-        kind[v] = number;
-        latency[v] = class.latency;
-        v += 1;
-    }
-    Work { kind, latency }
-}
-
-// The largest latency of the nodes.
-fn largest(nodes: u8, latency: &[u8; 64]) -> u8
-    requires { ⌜ nodes ≤ 64 ⌝ }
-    ensures { λ r. ⌜ r ≡ mostOf (now (latency .entry)) nodes ⌝ }
-{
-    let mut most: u8 = 0;
-    for v in 0..nodes {
-        let here = latency[v as usize];
-        if most < here {
-            most = here;
-        }
-    }
-    most
-}
-
 // How many nodes run on a class.
 fn nodes_on(nodes: u8, kind: &[u8; 64], class: u8) -> u8
     requires { ⌜ nodes ≤ 64 ⌝ }
@@ -164,16 +128,15 @@ fn units_part(class: Class, on: u8) -> u16
 }
 
 // The class that needs the most steps.
-fn busiest_class(form: Form, kind: &[u8; 64]) -> Busiest
-    requires { ⌜ WellFormed form ⌝ }
-    requires { ⌜ ((v : ℕ) → v < form .nodes → getD (now kind) v 0 ≡ runsOn (loopOf form) v) ⌝ }
-    ensures { λ r. ⌜ Busy (loopOf form) (form .classes) (r .part) (r .class) ⌝ }
+fn busiest_class(times: Timetable) -> Busiest
+    requires { ⌜ Sound times ⌝ }
+    ensures { λ r. ⌜ ((g : Loop) (p : Pair) → Timed g p times → Busy g (g .classes) (r .part) (r .class)) ⌝ }
 {
     let mut part: u16 = 0;
     let mut number: u8 = 0;
-    for c in 0..form.classes {
-        let class = form.class[c as usize];
-        let here = units_part(class, nodes_on(form.nodes, kind, c));
+    for c in 0..times.classes {
+        let class = times.class[c as usize];
+        let here = units_part(class, nodes_on(times.nodes, &times.kind, c));
         if part < here {
             part = here;
             number = c;
@@ -186,17 +149,16 @@ fn busiest_class(form: Form, kind: &[u8; 64]) -> Busiest
 }
 
 // What the edges cost: the latency of their tails.
-fn costs_of(form: Form) -> [u16; 256]
-    requires { ⌜ WellFormed form ⌝ }
-    ensures { λ r. ⌜ Costed form r ⌝ }
+fn costs_of<'a>(edges: u16, from: &'a [u8; 256], latency: &'a [u8; 64]) -> [u16; 256]
+    requires { ⌜ edges ≤ 256 ⌝ }
+    requires { ⌜ ((e : ℕ) → e < edges → getD (now from) e 0 < 64) ⌝ }
+    ensures { λ r. ⌜ ((e : ℕ) → e < edges → getD r e 0 ≡ getD (now (latency .entry)) (getD (now (from .entry)) e 0) 0) ⌝ }
 {
     let mut costs = [0u16; 256];
-    let edges = form.edges as usize;
     let mut e: usize = 0;
-    while e < edges {
-        let number = form.node[form.from[e] as usize].class;
-        let class = form.class[number as usize];
-        costs[e] = wide(class.latency);
+    while e < edges as usize {
+        let tail = from[e] as usize;
+        costs[e] = wide(latency[tail]);
         e += 1;
     }
     costs
@@ -218,23 +180,34 @@ fn gains_of(edges: u16, delays: &[u8; 256], length: u16) -> [u16; 256]
 }
 
 // Whether no cycle has a latency sum above the length times its delay sum.
-fn is_enough(form: Form, costs: &[u16; 256], length: u16) -> bool
-    requires { ⌜ WellFormed form ⌝ }
-    requires { ⌜ Costed form (now costs) ⌝ }
-    requires { ⌜ length ≤ 512 ⌝ }
-    ensures { λ r. ⌜ r ≡ enough (loopOf form) length ⌝ }
+fn is_enough<'a>(
+    nodes: u8,
+    edges: u16,
+    from: &'a [u8; 256],
+    to: &'a [u8; 256],
+    delays: &'a [u8; 256],
+    costs: &'a [u16; 256],
+    length: u16,
+) -> bool
+    requires { ⌜ Edged nodes edges (now from) (now to) (now delays) × (length ≤ 512) ⌝ }
+    ensures { λ r. ⌜ ((g : Loop) → Told g nodes edges (now (from .entry)) (now (to .entry)) (now (delays .entry)) → Costed g edges (now (costs .entry)) → r ≡ enough g length) ⌝ }
 {
-    let gains = gains_of(form.edges, &form.delays, length);
-    let result = system::settle(form.nodes, form.edges, &form.from, &form.to, &gains, costs);
+    let gains = gains_of(edges, delays, length);
+    let result = system::settle(nodes, edges, from, to, &gains, costs);
     result.settled
 }
 
 // The least length that is enough. Each turn halves the lengths left, 512 at first, so the system is settled 9 times, whatever the record.
-fn cycle_part(form: Form, costs: &[u16; 256]) -> u16
-    requires { ⌜ WellFormed form ⌝ }
-    requires { ⌜ Costed form (now costs) ⌝ }
-    requires { ⌜ knotted (loopOf form) ≡ false ⌝ }
-    ensures { λ r. ⌜ r ≡ cyclePart (loopOf form) ⌝ }
+fn cycle_part<'a>(
+    nodes: u8,
+    edges: u16,
+    from: &'a [u8; 256],
+    to: &'a [u8; 256],
+    delays: &'a [u8; 256],
+    costs: &'a [u16; 256],
+) -> u16
+    requires { ⌜ Edged nodes edges (now from) (now to) (now delays) ⌝ }
+    ensures { λ r. ⌜ ((g : Loop) → Paced g nodes edges (now (from .entry)) (now (to .entry)) (now (delays .entry)) (now (costs .entry)) → r ≡ cyclePart g) ⌝ }
 {
     // 0 or a length that is not enough
     let mut short: u16 = 0;
@@ -242,7 +215,7 @@ fn cycle_part(form: Form, costs: &[u16; 256]) -> u16
     let mut long: u16 = 512;
     while short + 1 < long {
         let middle = (short + long) / 2;
-        if is_enough(form, costs, middle) {
+        if is_enough(nodes, edges, from, to, delays, costs, middle) {
             long = middle;
         } else {
             short = middle;
@@ -252,15 +225,20 @@ fn cycle_part(form: Form, costs: &[u16; 256]) -> u16
 }
 
 // A cycle whose latency sum is above the length times its delay sum.
-fn breaking_cycle(form: Form, costs: &[u16; 256], length: u16) -> Cycle
-    requires { ⌜ WellFormed form ⌝ }
-    requires { ⌜ Costed form (now costs) ⌝ }
-    requires { ⌜ length ≤ 512 ⌝ }
-    requires { ⌜ enough (loopOf form) length ≡ false ⌝ }
-    ensures { λ r. ⌜ Losing (paces (loopOf form) length) (edgesOf r) × Filled r ⌝ }
+fn breaking_cycle<'a>(
+    nodes: u8,
+    edges: u16,
+    from: &'a [u8; 256],
+    to: &'a [u8; 256],
+    delays: &'a [u8; 256],
+    costs: &'a [u16; 256],
+    length: u16,
+) -> Cycle
+    requires { ⌜ Edged nodes edges (now from) (now to) (now delays) × (length ≤ 512) ⌝ }
+    ensures { λ r. ⌜ ((g : Loop) → Told g nodes edges (now (from .entry)) (now (to .entry)) (now (delays .entry)) → Costed g edges (now (costs .entry)) → enough g length ≡ false → Losing (paces g length) (edgesOf r) × Filled r) ⌝ }
 {
-    let gains = gains_of(form.edges, &form.delays, length);
-    let solution = solve::solve(form.nodes, form.edges, &form.from, &form.to, &gains, costs);
+    let gains = gains_of(edges, delays, length);
+    let solution = solve::solve(nodes, edges, from, to, &gains, costs);
     solution.cycle
 }
 
@@ -277,31 +255,40 @@ fn alone(refusal: Refusal, floor: u16, part: Part) -> Floored
 }
 
 // The three parts of a loop without a knot.
-fn parts_of(form: Form, costs: &[u16; 256]) -> AllParts
-    requires { ⌜ WellFormed form ⌝ }
-    requires { ⌜ Costed form (now costs) ⌝ }
-    requires { ⌜ knotted (loopOf form) ≡ false ⌝ }
-    ensures { λ r. ⌜ Measured (loopOf form) (r .latency) (r .units) (r .class) (r .cycle) ⌝ }
+fn parts_of<'a>(
+    edges: u16,
+    from: &'a [u8; 256],
+    to: &'a [u8; 256],
+    delays: &'a [u8; 256],
+    costs: &'a [u16; 256],
+    times: Timetable,
+) -> AllParts
+    requires { ⌜ Edged (times .nodes) edges (now from) (now to) (now delays) × Sound times ⌝ }
+    ensures { λ r. ⌜ ((g : Loop) (p : Pair) → Paced g (times .nodes) edges (now (from .entry)) (now (to .entry)) (now (delays .entry)) (now (costs .entry)) → Timed g p times → Measured g (r .latency) (r .units) (r .class) (r .cycle)) ⌝ }
 {
-    let work = work_of(form);
-    let latency = wide(largest(form.nodes, &work.latency));
-    let busiest = busiest_class(form, &work.kind);
+    let latency = wide(tables::largest(&times.latency, times.nodes));
+    let busiest = busiest_class(times);
     AllParts {
         latency,
         units: busiest.part,
         class: busiest.class,
-        cycle: cycle_part(form, costs),
+        cycle: cycle_part(times.nodes, edges, from, to, delays, costs),
     }
 }
 
 // The floor of a loop without a knot.
-fn free_floor(form: Form) -> Floored
-    requires { ⌜ WellFormed form ⌝ }
-    requires { ⌜ knotted (loopOf form) ≡ false ⌝ }
-    ensures { λ r. ⌜ FormFloored form r ⌝ }
+fn free_floor<'a>(
+    edges: u16,
+    from: &'a [u8; 256],
+    to: &'a [u8; 256],
+    delays: &'a [u8; 256],
+    times: Timetable,
+) -> Floored
+    requires { ⌜ ((f : Form) × Lent f edges (now from) (now to) (now delays) times × (knotted (loopOf f) ≡ false)) ⌝ }
+    ensures { λ r. ⌜ ((f : Form) → Lent f edges (now (from .entry)) (now (to .entry)) (now (delays .entry)) times → knotted (loopOf f) ≡ false → FormFloored f r) ⌝ }
 {
-    let costs = costs_of(form);
-    let parts = parts_of(form, &costs);
+    let costs = costs_of(edges, from, &times.latency);
+    let parts = parts_of(edges, from, to, delays, &costs, times);
     let floor = larger(parts.latency, larger(parts.units, parts.cycle));
     if parts.latency == floor {
         return alone(Refusal::None, floor, Part::Latency);
@@ -309,20 +296,27 @@ fn free_floor(form: Form) -> Floored
     if parts.units == floor {
         return alone(Refusal::None, floor, Part::Units(parts.class as u32));
     }
+    let short = floor - 1;
     Floored {
         refusal: Refusal::None,
         floor: floor as u32,
         part: Part::Cycle,
-        cycle: breaking_cycle(form, &costs, floor - 1),
+        cycle: breaking_cycle(times.nodes, edges, from, to, delays, &costs, short),
     }
 }
 
-// The floor of a form, or its knot.
-pub fn floor_form(form: Form) -> Floored
-    requires { ⌜ WellFormed form ⌝ }
-    ensures { λ r. ⌜ FormFloored form r ⌝ }
+// The floor of a form, or its knot. Its edges are lent, and its timetable stands for the rest.
+pub fn floor_tables<'a>(
+    edges: u16,
+    from: &'a [u8; 256],
+    to: &'a [u8; 256],
+    delays: &'a [u8; 256],
+    times: Timetable,
+) -> Floored
+    requires { ⌜ ((f : Form) × Lent f edges (now from) (now to) (now delays) times) ⌝ }
+    ensures { λ r. ⌜ ((f : Form) → Lent f edges (now (from .entry)) (now (to .entry)) (now (delays .entry)) times → FormFloored f r) ⌝ }
 {
-    let knot = knots::knot_of(form.nodes, form.edges, &form.from, &form.to, &form.delays);
+    let knot = knots::knot_of(times.nodes, edges, from, to, delays);
     if 0 < knot.count {
         return Floored {
             refusal: Refusal::Knot,
@@ -331,7 +325,7 @@ pub fn floor_form(form: Form) -> Floored
             cycle: knot,
         };
     }
-    free_floor(form)
+    free_floor(edges, from, to, delays, times)
 }
 
 // The floor of a record, or what is refused of it: by the reader first.
@@ -343,6 +337,12 @@ pub fn floor(record: &[u8]) -> Floored
     if !refusal.is_fine() {
         return alone(refusal, 0, Part::None);
     }
-    let form = read.form;
-    floor_form(form)
+    let times = tables::times_of(read.form);
+    floor_tables(
+        read.form.edges,
+        &read.form.from,
+        &read.form.to,
+        &read.form.delays,
+        times,
+    )
 }

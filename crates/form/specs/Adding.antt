@@ -1,6 +1,6 @@
 -- What adding a class, a node or an edge gives: the new place filled, that count raised and no schedule; past the limit Count and the form unchanged.
 -- Assumes nothing.
-use Prim.Native.Nat.{ℕ, _+_}
+use Prim.Native.Nat.{_+_}
 use mathlib.Core.Bool.{Bool}
 use lib.Dec.{ltb}
 use Rattle.lists.specs.Pick.{pick}

@@ -9,7 +9,6 @@ use native.Mathlib.Omega.{arith}
 use borrow.Author.Tests.{lt-ltb, le-ltb, eq-eqb, ne-eqb}
 use lib.Dec.{leb, ltb, eqb}
 use Rattle.lists.specs.Pick.{pick-ind, pick-true, pick-false}
-use Rattle.lists.specs.Place.{zeros-at}
 use Rattle.answer.specs.Refused.{numberOf, fine}
 use Rattle.answer.specs.Outcome.{noCycle}
 use Rattle.answer.specs.declared.Cycle.{Cycle}
@@ -21,25 +20,25 @@ use Rattle.field.specs.Number.{Bytes}
 use Rattle.reader.specs.declared.Record.{Record}
 use Rattle.reader.specs.Reading.{readForm}
 use Rattle.record.specs.Read.{read-well-formed}
-use Rattle.legal.specs.Loop.{Loop, Pair, graphOf, loopOf, pairOf}
+use Rattle.record.specs.Early.{read-early}
+use Rattle.legal.specs.Loop.{Loop, Pair, loopOf, pairOf}
 use Rattle.legal.specs.Systems.{knotted}
 use Rattle.legal.specs.Judging.{brokenEdge, overStep, unitsOf, rulesOf, judgeOf}
-use Rattle.legal.specs.Handed.{Handed}
+use Rattle.legal.specs.Handed.{handed-none}
 use Rattle.knots.specs.Found.{KnotFound}
 use Rattle.judge.specs.declared.Judged.{Judged}
 use Rattle.judge.specs.Judgement.{Judgement, judgeRecord, RecordJudgement}
-use Rattle.judge.specs.Early.{read-early}
 
 -- ---- the rules
 
-module _ (f : Form) (e : ℕ) (is : e ≡ brokenEdge (loopOf f) (pairOf f)) where
-  pub edge-refused : e < f .edges → Dependence e ≡ rulesOf (loopOf f) (pairOf f)
-  unfolding rulesOf loopOf graphOf
-  edge-refused l = sym (rw (← is) (pick-true (ltb e (f .edges)) (Dependence e) (unitsOf (loopOf f) (pairOf f)) (lt-ltb _ _ l)))
+module _ (g : Loop) (p : Pair) (e n : ℕ) (all : g .graph .edges ≡ n) (is : e ≡ brokenEdge g p) where
+  pub edge-refused : e < n → Dependence e ≡ rulesOf g p
+  unfolding rulesOf
+  edge-refused l = sym (rw (← is) (pick-true (ltb e (g .graph .edges)) (Dependence e) (unitsOf g p) (lt-ltb e (g .graph .edges) (omega arith))))
 
-  pub edges-kept : f .edges ≤ e → (r : Refusal) → r ≡ unitsOf (loopOf f) (pairOf f) → r ≡ rulesOf (loopOf f) (pairOf f)
-  unfolding rulesOf loopOf graphOf
-  edges-kept l r u = u ∙ sym (rw (← is) (pick-false (ltb e (f .edges)) (Dependence e) (unitsOf (loopOf f) (pairOf f)) (le-ltb _ _ l)))
+  pub edges-kept : n ≤ e → (r : Refusal) → r ≡ unitsOf g p → r ≡ rulesOf g p
+  unfolding rulesOf
+  edges-kept l r u = u ∙ sym (rw (← is) (pick-false (ltb e (g .graph .edges)) (Dependence e) (unitsOf g p) (le-ltb e (g .graph .edges) (omega arith))))
 
 -- ---- a form
 
@@ -55,18 +54,11 @@ rules-plain g p =
     (λ e. pick-ind Plain (leb (overStep g p) (p .length)) _ _ (λ l. record { unknotted = omega arith; fitting = omega arith })
     (λ l. record { unknotted = omega arith; fitting = omega arith }))
 
-module _ (g : Loop) (p : Pair) (r : Refusal) (c : Cycle) where
-  handed-none : Plain r → c ≡ noCycle → Handed g p r c
-  handed-none plain e = record {
-    knot = λ k. absurd (plain .unknotted (ap numberOf k));
-    impossible = λ k. absurd (plain .fitting (ap numberOf k));
-    none = λ k n. e;
-    filled = λ i h. rw e (zeros-at 64 i);
-  }
-
 module _ (f : Form) (j : Judged) where
   judged-alone : (r : Refusal) → Plain r → j .refusal ≡ r → j .cycle ≡ noCycle → r ≡ judgeOf f → Judgement f j
-  judged-alone r plain e z is = record { refusal = e ∙ is; handed = handed-none (loopOf f) (pairOf f) _ _ (subst Plain (sym e) plain) z }
+  judged-alone r plain e z is =
+      let plain′ = subst Plain (sym e) plain in
+      record { refusal = e ∙ is; handed = handed-none (loopOf f) (pairOf f) _ _ (plain′ .unknotted) (plain′ .fitting) z }
 
   pub judged-bare : f .length ≡ 0 → j .refusal ≡ Bare → j .cycle ≡ noCycle → Judgement f j
   unfolding judgeOf
@@ -104,7 +96,7 @@ module _ (s : List ℕ) (r : Record) (back : r ≡ readForm s) where
         let n : numberOf (j .refusal) ≤ 10 = rw (e, back) (read-early s) in
         record {
           refusal = e ∙ sym (rw (← back) (pick-false (fine (r .refusal)) (judgeOf (r .form)) (r .refusal) f));
-          handed = handed-none _ _ _ _ (record { unknotted = λ k. omega arith; fitting = λ k. omega arith }) z;
+          handed = handed-none _ _ _ _ (λ k. omega arith) (λ k. omega arith) z;
         }
 
     pub record-judged : fine (r .refusal) ≡ true → Judgement (r .form) j → RecordJudgement s j

@@ -1,14 +1,11 @@
--- What the proofs of the knots share: a table that is filled one place more, the system that the tables hold, and its two answers.
+-- What the proofs of the knots share: the system that the tables hold, and its two answers.
 -- Assumes nothing.
 use mathlib.Core.Path.{_≡_, refl, sym, ap, _∙_}
 use mathlib.Core.Bool.{Bool, true, false, not}
 use mathlib.Core.List.{List}
-use Prim.Native.Nat.{ℕ, zero, suc, _+_, _*_, _<_}
-use native.Mathlib.Nat.{ne-of-lt}
+use Prim.Native.Nat.{ℕ, zero, suc, _*_, _<_}
 use native.Mathlib.Omega.{arith}
-use lib.ListN.{length, getD, set, replicate}
-use lib.Seq.{getD-set-same, getD-set-other}
-use borrow.Author.Count.{below-more}
+use lib.ListN.{getD, replicate}
 use borrow.Author.Tests.{not-false}
 use Rattle.answer.specs.declared.Cycle.{Cycle}
 use Rattle.system.specs.Graph.{Joined}
@@ -22,13 +19,8 @@ use Rattle.solve.specs.declared.Solution.{Solution}
 use Rattle.legal.specs.Loop.{Loop}
 use Rattle.legal.specs.Systems.{knots, knotted}
 use Rattle.legal.specs.Knots.{losing-knot}
-use Rattle.knots.specs.Found.{Ends, Told, KnotFound, RanksFound}
-
--- a place more of a table is filled
-pub filled-more : (want : ℕ → ℕ) (xs : List ℕ) (v a : ℕ) → v < length xs → a ≡ want v → ((u : ℕ) → u < v → getD xs u 0 ≡ want u)
-    → (u : ℕ) → u < v + 1 → getD (set xs v a) u 0 ≡ want u
-filled-more want xs v a h e all =
-    below-more (λ u. getD (set xs v a) u 0 ≡ want u) v (λ u l. getD-set-other xs v u a 0 (ne-of-lt l) ∙ all u l) (getD-set-same xs v a 0 h ∙ e)
+use Rattle.tables.specs.Edges.{Ends, Told}
+use Rattle.knots.specs.Found.{KnotFound, RanksFound}
 
 -- a table of ones
 ones-at : (n e : ℕ) → e < n → _≡_ {A = ℕ} (getD (replicate n 1) e 0) 1

@@ -3,7 +3,8 @@ ghost use mathlib.Core.Path.{_≡_};
 ghost use Prim.Native.Nat.{ℕ, _*_, _≤_, _<_};
 ghost use lib.ListN.{getD};
 ghost use Rattle.legal.specs.Loop.{Loop};
-ghost use Rattle.knots.specs.Found.{Ends, Told, KnotFound, RanksFound};
+ghost use Rattle.tables.specs.Edges.{Ends, Told};
+ghost use Rattle.knots.specs.Found.{KnotFound, RanksFound};
 use answer::Cycle;
 
 // A knot, or no cycle and then a rank for each node: nodes in their order never read a later one of the same iteration.

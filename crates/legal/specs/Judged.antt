@@ -1,12 +1,14 @@
 -- What the judge answers of a well-formed form: Bare, Knot, Dependence with the lowest edge, Units with the lowest step and then class, or that the pair is legal.
 -- Assumes nothing.
-use mathlib.Core.Path.{_≡_, _∙_, subst}
+use mathlib.Core.Path.{_≡_, refl, _∙_, subst}
+use mathlib.Core.Bool.{true}
 use mathlib.Core.Logic.{_≢_}
 use mathlib.Core.List.{List}
 use Prim.Native.Nat.{ℕ}
 use borrow.Author.Tests.{eqb-true, eqb-false, eq-eqb, ne-eqb}
 use lib.Dec.{eqb}
-use Rattle.lists.specs.Pick.{pick, pick-ind, pick-true, pick-false}
+use Rattle.lists.specs.Pick.{pick, pick-ind, pick-true, pick-false, both-ways}
+use Rattle.answer.specs.Refused.{fine}
 use Rattle.answer.specs.declared.Refusal.{Refusal}
 use Rattle.answer.specs.declared.Refusal.the-variants.{None, Bare, Knot as Knotted, Dependence, Units}
 use Rattle.form.specs.declared.Form.{Form}
@@ -42,6 +44,15 @@ module _ (g : Loop) (p : Pair) where
 
   told-none : Judged g p None → (p .length ≢ 0) × EdgeRules g p × UnitRule g p
   told-none (rules r n free (kept h u)) = (n, h, u)
+
+-- a judge that refuses nothing accepts
+pub judged-none : (g : Loop) (p : Pair) (r : Refusal) → Judged g p r → fine r ≡ true → r ≡ None
+unfolding fine
+judged-none g p r (bare z) e = both-ways e refl
+judged-none g p r (knot n es k) e = both-ways e refl
+judged-none g p r (rules q n free (dependence d t)) e = both-ways e refl
+judged-none g p r (rules q n free (units h k d t)) e = both-ways e refl
+judged-none g p r (rules q n free (kept h u)) e = refl
 
 module _ (f : Form) (w : WellFormed f) where
   -- what the judge answers is so

@@ -1,7 +1,7 @@
 -- A loop on its board, and a schedule of it: what a form holds, read by number.
 -- Assumes nothing.
-use Prim.Native.Nat.{ℕ, _+_}
-use lib.Dec.{eqb, leb}
+use Prim.Native.Nat.{ℕ}
+use lib.Dec.{eqb}
 use lib.ListN.{getD}
 use Rattle.lists.specs.Pick.{pick}
 use Rattle.system.specs.Graph.{Graph}

@@ -1,19 +1,18 @@
 -- Losing closed walks hold losing cycles: one that meets a node twice splits into two, and one of these loses.
 -- Assumes nothing.
-use mathlib.Core.Path.{_≡_, sym, _∙_, ap, subst}
+use mathlib.Core.Path.{_≡_, sym, _∙_, subst}
 use mathlib.Core.Logic.{_⊎_, inl, inr, _≢_}
-use mathlib.Core.List.{List, [], _∷_, _++_}
-use Prim.Native.Nat.{ℕ, zero, suc, _+_, _-_, _≤_, _<_}
-use lib.ListN.{length, getD, take, drop, length-append, length-take, length-drop}
+use mathlib.Core.List.{List, [], _∷_}
+use Prim.Native.Nat.{ℕ, zero, suc, _-_, _≤_, _<_}
+use lib.ListN.{length, getD}
 use native.Mathlib.Omega.{arith}
-use native.Mathlib.Decide.{decLe, decLt}
+use native.Mathlib.Decide.{decLe}
 use native.Mathlib.Nat.{not-suc-le-zero, le-of-suc-le-suc}
-use Rattle.lists.specs.Fold.{sumOf}
 use Rattle.lists.specs.Pigeon.{pigeon, Twice, twice-or-apart}
 use Rattle.system.specs.Graph.{Graph, Joined, Walk, Cycle, stop}
-use Rattle.system.specs.System.{System, gains, costs, Losing, LosingWalk}
-use Rattle.system.specs.Walks.{node, walk-take, walk-drop, walk-join, node-drop, sum-cut}
-use Rattle.system.specs.Shorter.{node-stop, Shorter, shorter, losing-some}
+use Rattle.system.specs.System.{System, Losing, LosingWalk}
+use Rattle.system.specs.Walks.{node}
+use Rattle.system.specs.Shorter.{node-stop, shorter, losing-some}
 
 -- a losing cycle is a losing closed walk
 pub losing-walk : (s : System) (es : List ℕ) → Losing s es → LosingWalk s es

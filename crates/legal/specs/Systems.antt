@@ -1,6 +1,5 @@
 -- The systems that a loop gives: for knots, for retimings that fit given starts, for a length.
 -- Assumes nothing.
-use mathlib.Core.Path.{_≡_}
 use mathlib.Core.Bool.{Bool, not}
 use mathlib.Core.List.{List}
 use Prim.Native.Nat.{ℕ, _+_, _*_, _≤_, _<_}

@@ -18,12 +18,15 @@ use Rattle.form.specs.declared.BodyStep.{BodyStep}
 use Rattle.form.specs.Places.{classOf, noStep, retimingOf}
 use Rattle.form.specs.Ranges.{WellFormed}
 use Rattle.legal.specs.Loop.{graphOf, loopOf, hold}
+use Rattle.tables.specs.declared.Timetable.{Timetable}
+use Rattle.tables.specs.Times.{timesOf}
 use Rattle.reach.specs.Weight.{weight}
 use Rattle.list_rule.specs.Order.{orderOf}
 use Rattle.list_rule.specs.Rule.{startAt, inUse, free, ready, place, fillStep, allPlaced, fillFrom, listRule}
-use Rattle.list_rule.specs.Tables.{numbersOf, startsOf, weightOf, Raised, Used, waitsFor, Waits}
+use Rattle.list_rule.specs.Tables.{numbersOf, startsOf, weightOf, Raised, Used, Waits}
 use Rattle.list_rule.proofs.Laws.{both-false, number-at, numbers-length, numbers-set, adds-one, adds-none}
 use Rattle.list_rule.proofs.Units.{classAt, used-put}
+use Rattle.list_rule.proofs.Waits.{ready-is}
 use Rattle.list_rule.proofs.Ordering.{order-same, table-below}
 
 -- the nodes in the order of the list rule
@@ -122,10 +125,10 @@ module _ (f : Form) where
       unfolding place pick
       trying-placed h = trying-past (rw (ne-eqb (startAt (numbersOf start) node) 0 (rw number-at h)))
 
-      module _ (waits : List ℕ) (marks : Waits f (numbersOf before) p (f .edges) waits) where
+      module _ (times : Timetable) (timed : times ≡ timesOf f) (waits : List ℕ)
+          (marks : Waits (f .from) (f .to) (f .delays) (f .retiming) (times .latency) (numbersOf before) p (f .edges) waits) where
         is-ready : ready (loopOf f) (retimingOf f) (numbersOf before) p node ≡ eqb (getD waits node 0) 0
-        unfolding ready waitsFor loopOf graphOf
-        is-ready = rw (marks .at node (omega (arith, ordered-in f order w o i i-in)))
+        is-ready = ready-is f w times timed (numbersOf before) p waits marks node (omega (arith, ordered-in f order w o i i-in))
 
         pub trying-waits : (getD waits node 0 ≡ 0 → ⊥) → Trying order before p (i + 1) start busy
         unfolding place pick

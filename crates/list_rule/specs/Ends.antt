@@ -11,7 +11,8 @@ use lib.Seq.{getD-set-same, getD-set-other}
 use Rattle.lists.specs.Pick.{pick, pick-ind, pick-true, pick-false}
 use Rattle.lists.specs.Span.{span}
 use Rattle.lists.specs.Fold.{sumOf}
-use Rattle.lists.specs.Counted.{sum-one, sum-at, sum-bound, top-run-over, top-run-le}
+use Rattle.lists.specs.Counted.{sum-one, sum-at, sum-bound}
+use Rattle.lists.specs.Sums.{top-run-over, top-run-le}
 use Rattle.legal.specs.Loop.{Loop, latency}
 use Rattle.list_rule.specs.Rule.{startAt, lengthOf}
 

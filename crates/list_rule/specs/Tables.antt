@@ -11,9 +11,9 @@ use Rattle.lists.specs.Span.{span}
 use Rattle.lists.specs.Fold.{count}
 use Rattle.form.specs.declared.Form.{Form}
 use Rattle.form.specs.declared.BodyStep.{BodyStep}
-use Rattle.form.specs.Places.{startOf, latencyOf, retimingOf}
+use Rattle.form.specs.Places.{startOf, latencyOf}
 use Rattle.legal.specs.Loop.{loopOf}
-use Rattle.list_rule.specs.Rule.{uses, blocks}
+use Rattle.list_rule.specs.Rule.{startAt, uses}
 
 -- the numbers of the steps in a table of starts
 unfoldable pub numbersOf : List BodyStep → List ℕ
@@ -53,11 +53,18 @@ pub record Used (f : Form) (s : List ℕ) (n : ℕ) (busy : List ℕ) : Type 0 w
 unfoldable pub blocksAt : ℕ → ℕ → ℕ → ℕ → ℕ → ℕ → Bool
 blocksAt d tail head s t p = eqb (d + tail) head && (eqb s 0 || ltb p (s + t))
 
--- how many of the first n edges keep v from starting at p
-unfoldable pub waitsFor : Form → List ℕ → ℕ → ℕ → ℕ → ℕ
-waitsFor f s p n v = count (λ e. eqb (getD (f .to) e 0) v && blocks (loopOf f) (retimingOf f) s p e) (span 0 n)
+module _ (from to delays retiming latency s : List ℕ) (p : ℕ) where
+  -- edge e of the tables keeps its head so
+  abbrev pub blocksIn : ℕ → Bool
+  blocksIn e =
+      let tail = getD from e 0 in
+      blocksAt (getD delays e 0) (getD retiming tail 0) (getD retiming (getD to e 0) 0) (startAt s tail) (getD latency tail 0) p
 
--- a table of them
-pub record Waits (f : Form) (s : List ℕ) (p n : ℕ) (waits : List ℕ) : Type 0 where
-  pub size : length waits ≡ 64
-  pub at : (v : ℕ) → v < 64 → getD waits v 0 ≡ waitsFor f s p n v
+  -- how many of the first n edges keep v from starting at p
+  unfoldable pub waitsFor : ℕ → ℕ → ℕ
+  waitsFor n v = count (λ e. eqb (getD to e 0) v && blocksIn e) (span 0 n)
+
+  -- a table of them
+  pub record Waits (n : ℕ) (waits : List ℕ) : Type 0 where
+    pub size : length waits ≡ 64
+    pub at : (v : ℕ) → v < 64 → getD waits v 0 ≡ waitsFor n v

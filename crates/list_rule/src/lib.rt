@@ -10,6 +10,7 @@ ghost use Rattle.lists.specs.Fold.{count};
 ghost use Rattle.form.specs.Places.{retimingOf};
 ghost use Rattle.form.specs.Ranges.{WellFormed};
 ghost use Rattle.legal.specs.Loop.{loopOf, hold};
+ghost use Rattle.tables.specs.Edges.{Ends as EdgesIn};
 ghost use Rattle.reach.specs.Weight.{weight as weightIn};
 ghost use Rattle.list_rule.specs.Order.{insert as insertIn, orderOf};
 ghost use Rattle.list_rule.specs.Rule.{startAt, listRule};
@@ -146,22 +147,30 @@ fn blocked(delays: u8, tail: u8, head: u8, begins: u16, latency: u8, step: u16) 
 }
 
 // How many edges keep each node from starting at `step`.
-fn waiting(form: Form, start: [BodyStep; 64], step: u16) -> [u16; 64]
-    requires { ⌜ WellFormed form ⌝ }
-    ensures { λ r. ⌜ Waits form (numbersOf start) step (form .edges) r ⌝ }
+fn waiting<'a>(
+    edges: u16,
+    from: &'a [u8; 256],
+    to: &'a [u8; 256],
+    delays: &'a [u8; 256],
+    retiming: &'a [u8; 64],
+    latency: &'a [u8; 64],
+    start: [BodyStep; 64],
+    step: u16,
+) -> [u16; 64]
+    requires { ⌜ EdgesIn 64 edges (now from) (now to) ⌝ }
+    ensures { λ r. ⌜ Waits (now (from .entry)) (now (to .entry)) (now (delays .entry)) (now (retiming .entry)) (now (latency .entry)) (numbersOf start) step edges r ⌝ }
 {
     let mut waits = [0u16; 64];
-    for e in 0..form.edges {
+    for e in 0..edges {
         let i = e as usize;
-        let tail = form.from[i] as usize;
-        let head = form.to[i] as usize;
-        let class = form.class[form.node[tail].class as usize];
+        let tail = from[i] as usize;
+        let head = to[i] as usize;
         waits[head] += blocked(
-            form.delays[i],
-            form.retiming[tail],
-            form.retiming[head],
+            delays[i],
+            retiming[tail],
+            retiming[head],
             start[tail].0,
-            class.latency,
+            latency[tail],
             step,
         );
     }
@@ -178,11 +187,21 @@ pub fn list_rule(form: Form, weight: [u8; 64]) -> [BodyStep; 64]
     let order = order_of(nodes, weight);
     let mut start = form.start;
     let mut busy = busy_of(form);
+    let times = tables::times_of(form);
     'steps: for p in 1..1024u16 {
         if unplaced(nodes, start) == 0 {
             break 'steps;
         }
-        let waits = waiting(form, start, p);
+        let waits = waiting(
+            form.edges,
+            &form.from,
+            &form.to,
+            &form.delays,
+            &form.retiming,
+            &times.latency,
+            start,
+            p,
+        );
         'nodes: for i in 0..nodes {
             let v = order[i as usize] as usize;
             if start[v].0 != 0 || waits[v] != 0 {

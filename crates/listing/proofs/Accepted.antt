@@ -2,11 +2,10 @@
 -- Assumes nothing.
 use mathlib.Core.Path.{_≡_, refl, sym, ap, subst, _∙_}
 use mathlib.Core.Bool.{Bool, true, false}
-use mathlib.Core.Logic.{_≢_}
 use mathlib.Core.List.{List}
 use Prim.Native.Nat.{ℕ, _≤_}
 use native.Mathlib.Omega.{arith}
-use borrow.Author.Tests.{eq-eqb}
+use borrow.Author.Tests.{eq-eqb, eqb-true}
 use Rattle.lists.specs.Pick.{pick-true, pick-false, both-ways}
 use Rattle.answer.specs.Refused.{numberOf, fine}
 use Rattle.answer.specs.declared.Refusal.{Refusal}
@@ -25,11 +24,14 @@ use Rattle.legal.specs.Paced.{legal-free}
 use Rattle.legal.specs.Judging.{judgeOf}
 use Rattle.legal.specs.Judged.{judge-accepts}
 use Rattle.judge.specs.declared.Judged.{Judged}
-use Rattle.judge.specs.Judgement.{judgeRecord, RecordJudgement}
+use Rattle.judge.specs.Judgement.{Judgement, judgeRecord}
+use Rattle.judge.proofs.Laws.{record-judged}
 use Rattle.floor.specs.declared.Floored.{Floored}
 use Rattle.floor.specs.Parts.{floorLength}
 use Rattle.floor.specs.Bounds.{floor-bound}
-use Rattle.floor.specs.Floor.{floorRefusal, floorRecord, RecordFloored}
+use Rattle.floor.specs.Floor.{floorRefusal, floorRecord, FormFloored, RecordFloored}
+use Rattle.floor.proofs.Answers.{record-floored}
+use Rattle.listing.specs.declared.View.{View}
 use Rattle.listing.specs.Shown.{Shown, Viewed}
 
 record Numbered (r : Refusal) : Type 0 where
@@ -87,6 +89,7 @@ form-shown s b r t accepts =
     let legal = judge-accepts f w (a .1) .1 in
     let free = free-unknotted (loopOf f) (sound-form f w) (legal-free (loopOf f) (pairOf f) (sound-form f w) legal) in
     record {
+      good = w;
       nodes = w .nodes .1;
       edges = w .edges;
       length = w .length;
@@ -96,20 +99,42 @@ form-shown s b r t accepts =
 
 -- ---- what a record shows
 
-module _ (s : List ℕ) (j : Judged) (x : Record) (n : ℕ) (tj : RecordJudgement s j) (tx : x ≡ readForm s) (tn : n ≡ numberOf (j .refusal)) where
-  number-is : n ≡ numberOf (judgeRecord s)
-  number-is = tn ∙ ap numberOf (tj .refusal)
-
+module _ (s : List ℕ) (x : Record) (tx : x ≡ readForm s) where
   form-is : x .form ≡ readForm s .form
   form-is = ap (λ (y : Record). y .form) tx
 
-  viewed : (floor : ℕ) → (n ≡ 0 → Shown (x .form) floor) → Viewed s (record { number = n; form = x .form; floor = floor })
-  viewed floor shown =
-      let small = numbered (judgeRecord s) .small in
-      record { number = number-is; form = form-is; seen = record { small = omega (arith, number-is); shown = shown } }
+  -- a refusal shows its number alone
+  refused-viewed : (r : Refusal) → fine r ≡ false → r ≡ judgeRecord s → (v : View) → (v .number ≡ numberOf r) × (v .form ≡ x .form) → Viewed s v
+  unfolding fine
+  refused-viewed r unfit is v e = record {
+    number = e .0 ∙ ap numberOf is;
+    form = e .1 ∙ form-is;
+    seen = record {
+      small = omega (arith, e .0, numbered r .small);
+      shown = λ z. both-ways (eq-eqb (numberOf r) 0 (sym (e .0) ∙ z)) unfit;
+    };
+  }
 
-  pub refused-viewed : n ≢ 0 → Viewed s (record { number = n; form = x .form; floor = 0 })
-  refused-viewed h = viewed 0 (λ z. absurd (h z))
+  -- the reader's
+  pub read-viewed : fine (x .refusal) ≡ false → (v : View) → (v .number ≡ numberOf (x .refusal)) × (v .form ≡ x .form) → Viewed s v
+  unfolding judgeRecord
+  read-viewed unfit v e =
+      refused-viewed (x .refusal) unfit (sym (rw (← tx) (pick-false (fine (x .refusal)) (judgeOf (x .form)) (x .refusal) unfit))) v e
 
-  pub form-viewed : Bytes s → n ≡ 0 → (r : Floored) → RecordFloored s r → Viewed s (record { number = n; form = x .form; floor = r .floor })
-  form-viewed b h r t = viewed (r .floor) (λ z. subst (λ (f : Form). Shown f (r .floor)) (sym form-is) (form-shown s b r t (sym number-is ∙ h)))
+  -- the judge's, and a form that it accepts
+  module _ (reads : fine (x .refusal) ≡ true) (j : Judged) (judged : Judgement (x .form) j) where
+    pub judged-viewed : fine (j .refusal) ≡ false → (v : View) → (v .number ≡ numberOf (j .refusal)) × (v .form ≡ x .form) → Viewed s v
+    judged-viewed unfit v e = refused-viewed (j .refusal) unfit (record-judged s x tx j reads judged .refusal) v e
+
+    pub form-viewed : Bytes s → fine (j .refusal) ≡ true → (r : Floored) → FormFloored (x .form) r → Viewed s (record { number = 0; form = x .form; floor = r .floor })
+    unfolding fine
+    form-viewed b accepts r floored =
+        let none : numberOf (judgeRecord s) ≡ 0 = ap numberOf (sym (record-judged s x tx j reads judged .refusal)) ∙ eqb-true (numberOf (j .refusal)) 0 accepts in
+        record {
+          number = sym none;
+          form = form-is;
+          seen = record {
+            small = omega arith;
+            shown = λ _. subst (λ (f : Form). Shown f (r .floor)) (sym form-is) (form-shown s b r (record-floored s x tx r reads floored) none);
+          };
+        }

@@ -1,10 +1,9 @@
 -- The lines of a listing: the mark, the counts with the floor, then each body step with the nodes that start there.
 -- Assumes nothing.
-use mathlib.Core.Bool.{Bool}
 use mathlib.Core.List.{List, [], _∷_, _++_, map}
 use Prim.Native.Nat.{ℕ, _+_}
 use lib.Dec.{eqb, ltb}
-use lib.ListN.{length}
+use lib.ListN.{length, getD}
 use lib.Seq.{sets}
 use Rattle.lists.specs.Pick.{pick}
 use Rattle.lists.specs.Span.{span}
@@ -20,9 +19,8 @@ use Rattle.legal.specs.Loop.{loopOf}
 use Rattle.judge.specs.Judgement.{judgeRecord}
 use Rattle.floor.specs.Parts.{floorLength}
 use Rattle.listing.specs.declared.Listed.{Listed}
+use Rattle.text.specs.Decimal.{decimal, newline}
 use Rattle.listing.specs.Text.{
-  decimal,
-  newline,
   markLine,
   refusedWord,
   nodesWord,
@@ -34,43 +32,50 @@ use Rattle.listing.specs.Text.{
   openWord,
 }
 
+-- a table as a function
+abbrev pub cell : List ℕ → ℕ → ℕ
+cell table v = getD table v 0
+
 -- the largest retiming
-unfoldable pub depthOf : Form → ℕ
-depthOf f = top (map (retimingOf f) (span 0 (f .nodes)))
+unfoldable pub depthOf : (ℕ → ℕ) → ℕ → ℕ
+depthOf retiming nodes = top (map retiming (span 0 nodes))
 
 -- a pair is "shortest" when its length is the floor, else "open"
-unfoldable pub verdict : Form → List ℕ
-verdict f = pick (eqb (f .length) (floorLength (loopOf f))) shortestWord openWord
+unfoldable pub verdict : ℕ → ℕ → List ℕ
+verdict steps floor = pick (eqb steps floor) shortestWord openWord
 
-unfoldable pub countsLine : Form → List ℕ
-countsLine f =
-    nodesWord ++ (decimal (f .nodes)
-    ++ (edgesWord ++ (decimal (f .edges)
-    ++ (lengthWord ++ (decimal (f .length)
-    ++ (depthWord ++ (decimal (depthOf f)
-    ++ (floorWord ++ (decimal (floorLength (loopOf f)) ++ (verdict f ++ newline))))))))))
+unfoldable pub countsLine : ℕ → ℕ → ℕ → ℕ → ℕ → List ℕ
+countsLine nodes edges steps depth floor =
+    nodesWord ++ (decimal nodes
+    ++ (edgesWord ++ (decimal edges
+    ++ (lengthWord ++ (decimal steps
+    ++ (depthWord ++ (decimal depth
+    ++ (floorWord ++ (decimal floor ++ (verdict steps floor ++ newline))))))))))
 
 -- "+r", nothing where r is 0
 unfoldable pub retimingText : ℕ → List ℕ
 retimingText r = pick (eqb r 0) [] (43 ∷ decimal r)
 
--- node v where it starts in step q: a space, its number, "+r" when r is not 0
-unfoldable pub nodeText : Form → ℕ → ℕ → List ℕ
-nodeText f q v = pick (eqb (startOf f v) q) (32 ∷ (decimal v ++ retimingText (retimingOf f v))) []
-
--- the nodes that start in step q, ascending
-unfoldable pub nodesText : Form → ℕ → List ℕ
-nodesText f q = rows (nodeText f q) (f .nodes)
-
 -- " -" where none does
 unfoldable pub orIdle : List ℕ → List ℕ
 orIdle text = pick (eqb (length text) 0) (32 ∷ 45 ∷ []) text
 
-unfoldable pub stepLine : Form → ℕ → List ℕ
-stepLine f q = decimal q ++ (58 ∷ (orIdle (nodesText f q) ++ newline))
+module _ (start retiming : ℕ → ℕ) where
+  -- node v where it starts in step q: a space, its number, "+r" when r is not 0
+  unfoldable pub nodeText : ℕ → ℕ → List ℕ
+  nodeText q v = pick (eqb (start v) q) (32 ∷ (decimal v ++ retimingText (retiming v))) []
+
+  -- the nodes that start in step q, ascending
+  unfoldable pub nodesText : ℕ → ℕ → List ℕ
+  nodesText nodes q = rows (nodeText q) nodes
+
+  unfoldable pub stepLine : ℕ → ℕ → List ℕ
+  stepLine nodes q = decimal q ++ (58 ∷ (orIdle (nodesText nodes q) ++ newline))
 
 unfoldable pub formLines : Form → List ℕ
-formLines f = markLine ++ (countsLine f ++ rows (λ i. stepLine f (i + 1)) (f .length))
+formLines f =
+    markLine ++ (countsLine (f .nodes) (f .edges) (f .length) (depthOf (retimingOf f) (f .nodes)) (floorLength (loopOf f))
+    ++ rows (λ i. stepLine (startOf f) (retimingOf f) (f .nodes) (i + 1)) (f .length))
 
 -- what the judge refuses, reading included, is one line
 unfoldable pub refusedLine : Refusal → List ℕ

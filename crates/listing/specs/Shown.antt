@@ -7,16 +7,19 @@ use lib.Dec.{eqb}
 use Rattle.lists.specs.Pick.{pick}
 use Rattle.answer.specs.Refused.{numberOf}
 use Rattle.form.specs.declared.Form.{Form}
+use Rattle.form.specs.Ranges.{WellFormed}
 use Rattle.reader.specs.Reading.{readForm}
 use Rattle.legal.specs.Loop.{loopOf}
 use Rattle.judge.specs.Judgement.{judgeRecord}
 use Rattle.floor.specs.Parts.{floorLength}
 use Rattle.listing.specs.declared.View.{View}
-use Rattle.listing.specs.Text.{decimal, newline, refusedWord, nodesWord, edgesWord, lengthWord}
+use Rattle.text.specs.Decimal.{decimal, newline}
+use Rattle.listing.specs.Text.{refusedWord, nodesWord, edgesWord, lengthWord}
 use Rattle.listing.specs.Lines.{formLines}
 
 -- a form that the judge accepts and its floor: every number shown is below 1000
 pub record Shown (f : Form) (floor : ℕ) : Type 0 where
+  pub good : WellFormed f
   pub nodes : f .nodes ≤ 64
   pub edges : f .edges ≤ 256
   pub length : f .length ≤ 512
@@ -24,8 +27,8 @@ pub record Shown (f : Form) (floor : ℕ) : Type 0 where
   pub is : floor ≡ floorLength (loopOf f)
 
 -- the first three fields of the counts
-unfoldable pub sizesText : Form → List ℕ
-sizesText f = (nodesWord ++ decimal (f .nodes)) ++ ((edgesWord ++ decimal (f .edges)) ++ (lengthWord ++ decimal (f .length)))
+unfoldable pub sizesText : ℕ → ℕ → ℕ → List ℕ
+sizesText nodes edges steps = (nodesWord ++ decimal nodes) ++ ((edgesWord ++ decimal edges) ++ (lengthWord ++ decimal steps))
 
 -- what can be put
 pub record Seen (v : View) : Type 0 where

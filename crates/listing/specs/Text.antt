@@ -1,22 +1,7 @@
--- Numbers below 1000 in decimal, without leading zeros, and the words of a listing.
+-- The words of a listing.
 -- Assumes nothing.
 use mathlib.Core.List.{List, [], _∷_}
-use Prim.Native.Nat.{ℕ, _+_, _/_, _%_}
-use lib.Dec.{ltb}
-use Rattle.lists.specs.Pick.{pick}
-
--- the digit of a number below 10
-abbrev pub digit : ℕ → ℕ
-digit n = 48 + n
-
-unfoldable pub decimal : ℕ → List ℕ
-decimal n =
-    pick (ltb n 10) (digit n ∷ [])
-    (pick (ltb n 100) (digit (n / 10) ∷ digit (n % 10) ∷ [])
-    (digit (n / 100) ∷ digit (n / 10 % 10) ∷ digit (n % 10) ∷ []))
-
-abbrev pub newline : List ℕ
-newline = 10 ∷ []
+use Prim.Native.Nat.{ℕ}
 
 -- "RSK 1", the mark and the version
 unfoldable pub markLine : List ℕ

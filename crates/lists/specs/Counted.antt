@@ -1,9 +1,9 @@
--- Counts that are 0, or not, over any list; sums and counts over a run of numbers whose terms differ at one of them; the largest of a run.
+-- Counts that are 0, or not, over any list; sums and counts over a run of numbers whose terms differ at one of them.
 -- Assumes nothing.
 use mathlib.Core.Path.{_≡_, refl, sym, _∙_, ap}
 use mathlib.Core.Bool.{Bool, true, false}
 use mathlib.Core.Logic.{_≢_}
-use mathlib.Core.List.{List, [], _∷_, map}
+use mathlib.Core.List.{List, [], _∷_}
 use Prim.Native.Nat.{ℕ, zero, suc, _+_, _-_, _*_, _≤_, _<_, suc-le-suc}
 use native.Mathlib.Omega.{arith}
 use native.Mathlib.Decide.{ℕ-discrete}
@@ -13,7 +13,8 @@ use lib.Dec.{eqb}
 use lib.ListN.{length, getD}
 use Rattle.lists.specs.Pick.{pick, pick-true, pick-false}
 use Rattle.lists.specs.Span.{span, span-length, span-at}
-use Rattle.lists.specs.Fold.{sumOf, count, top}
+use Rattle.lists.specs.Fold.{sumOf, count}
+use Rattle.lists.specs.Sums.{count-sum}
 
 -- ---- over any list
 
@@ -60,11 +61,6 @@ twice-counted f (x ∷ xs) d i zero l m p q = absurd (not-suc-le-zero l)
 twice-counted f (x ∷ xs) d zero (suc j) l m p q = omega (arith, pick-true {A = ℕ} (f x) 1 0 p, place-count f xs d j (le-of-suc-le-suc m) q)
 twice-counted f (x ∷ xs) d (suc i) (suc j) l m p q =
     omega (arith, twice-counted f xs d i j (le-of-suc-le-suc l) (le-of-suc-le-suc m) p q)
-
-pub count-sum {ℓ} : {A : Type ℓ} (f : A → Bool) (xs : List A) → count f xs ≡ sumOf (λ x. pick (f x) 1 0) xs
-unfolding count sumOf
-count-sum f [] = refl
-count-sum f (x ∷ xs) = omega (arith, count-sum f xs)
 
 -- ---- over a run of numbers
 
@@ -132,19 +128,3 @@ unfolding sumOf span
 sum-bound f k a zero h = omega arith
 sum-bound f k a (suc n) h =
     omega (arith, mul-suc k n, h a (omega arith) (omega arith), sum-bound f k (suc a) n (λ v l m. h v (omega arith) (omega arith)))
-
-module _ (f : ℕ → ℕ) where
-  pub top-run-over : (a n v : ℕ) → a ≤ v → v < a + n → f v ≤ top (map f (span a n))
-  unfolding top span
-  top-run-over a zero v l m = absurd (omega arith)
-  top-run-over a (suc n) v l m =
-      elim (ℕ-discrete a v) [
-        | yes q ↦ omega (arith, ap f q)
-        | no q ↦ omega (arith, top-run-over (suc a) n v (omega arith) (omega arith))
-      ]
-
-  pub top-run-le : (a n b : ℕ) → ((v : ℕ) → a ≤ v → v < a + n → f v ≤ b) → top (map f (span a n)) ≤ b
-  unfolding top span
-  top-run-le a zero b h = omega arith
-  top-run-le a (suc n) b h =
-      omega (arith, h a (omega arith) (omega arith), top-run-le (suc a) n b (λ v l m. h v (omega arith) (omega arith)))

@@ -12,3 +12,4 @@ pub mod Quotient
 pub mod Inject
 pub mod Last
 pub mod Mapped
+pub mod Filled

@@ -5,13 +5,14 @@ use mathlib.Core.Logic.{_⊎_, inl, inr, ⊎-elim}
 use mathlib.Core.Bool.{Bool, true, false, _&&_}
 use mathlib.Core.List.{List, [], _∷_, map}
 use Prim.Native.Nat.{ℕ, zero, suc, _+_, _*_, _-_, _≤_, _<_, min, max}
-use native.Mathlib.Nat.{add-zero, add-suc, suc-add, zero-add, not-suc-le-zero, le-of-suc-le-suc, eq-or-lt-of-le}
+use native.Mathlib.Nat.{add-zero, add-suc, suc-add, zero-add}
 use native.Mathlib.Omega.{arith}
+use native.Mathlib.Decide.{ℕ-discrete}
 use lib.Dec.{leb, ltb}
 use borrow.Author.Tests.{leb-true, leb-false, ltb-true, ltb-false}
 use Rattle.lists.specs.Pick.{pick}
 use Rattle.lists.specs.Span.{span}
-use Rattle.lists.specs.Fold.{sumOf, sum-snoc, count, top}
+use Rattle.lists.specs.Fold.{sumOf, count, top}
 
 -- 1 for a test that passes, else 0
 abbrev pub bit : Bool → ℕ
@@ -89,15 +90,24 @@ pub top-last : (f : ℕ → ℕ) (n : ℕ) → top (map f (span 0 (suc n))) ≡ 
 top-last f n = top-snoc f 0 n ∙ rw zero-add
 
 -- each of a run is at most the largest
+pub top-run-over : (f : ℕ → ℕ) (a n v : ℕ) → a ≤ v → v < a + n → f v ≤ top (map f (span a n))
+unfolding top span
+top-run-over f a zero v l m = absurd (omega arith)
+top-run-over f a (suc n) v l m =
+    elim (ℕ-discrete a v) [
+      | yes q ↦ omega (arith, ap f q)
+      | no q ↦ omega (arith, top-run-over f (suc a) n v (omega arith) (omega arith))
+    ]
+
 pub top-each : (f : ℕ → ℕ) (n v : ℕ) → v < n → f v ≤ top (map f (span 0 n))
-top-each f zero v l = absurd (not-suc-le-zero l)
-top-each f (suc n) v l =
-    ⊎-elim
-    (λ e. omega (arith, top-last f n, ap f e))
-    (λ m. omega (arith, top-last f n, top-each f n v m))
-    (eq-or-lt-of-le (le-of-suc-le-suc l))
+top-each f n v l = top-run-over f 0 n v (omega arith) (omega arith)
 
 -- and what each is at most, the largest is
+pub top-run-le : (f : ℕ → ℕ) (a n k : ℕ) → ((v : ℕ) → a ≤ v → v < a + n → f v ≤ k) → top (map f (span a n)) ≤ k
+unfolding top span
+top-run-le f a zero k h = omega arith
+top-run-le f a (suc n) k h =
+    omega (arith, h a (omega arith) (omega arith), top-run-le f (suc a) n k (λ v l m. h v (omega arith) (omega arith)))
+
 pub top-under : (f : ℕ → ℕ) (k n : ℕ) → ((v : ℕ) → v < n → f v ≤ k) → top (map f (span 0 n)) ≤ k
-top-under f k zero h = omega (arith, top-none f 0)
-top-under f k (suc n) h = omega (arith, top-last f n, h n (omega arith), top-under f k n (λ v l. h v (omega arith)))
+top-under f k n h = top-run-le f 0 n k (λ v l m. h v (omega arith))

@@ -6,7 +6,6 @@ use Prim.Native.Nat.{ℕ, zero, suc, _+_, _-_, _*_, _%_}
 use lib.Dec.{eqb, ltb}
 use lib.ListN.{getD}
 use Rattle.lists.specs.Pick.{pick}
-use Rattle.lists.specs.Span.{span}
 use Rattle.lists.specs.Fold.{fold}
 use Rattle.form.specs.declared.Operation.{Operation}
 use Rattle.form.specs.declared.Operation.the-variants.{Add, Sub, Mul}

@@ -13,7 +13,7 @@ use Rattle.answer.specs.declared.Refusal.the-variants.{None}
 use Rattle.legal.specs.Loop.{Pair, hold}
 use Rattle.list_rule.specs.Worked.{small}
 use Rattle.machine.specs.Values.{plus, minus, times, difference, applied, edgesInto, operand, computed}
-use Rattle.machine.specs.Run.{Machine, depth, issues, late, lateEdge, holds, held, issue, visit, stepOf, runSteps, ran, cleared, runOf}
+use Rattle.machine.specs.Run.{depth, issues, late, lateEdge, holds, held, issue, visit, stepOf, runSteps, ran, cleared, runOf}
 
 unfoldable pub smallPair : Pair
 smallPair = record { start = λ v. getD (1 ∷ 1 ∷ 2 ∷ []) v 0; length = 2; retiming = λ v. getD (1 ∷ 0 ∷ 0 ∷ []) v 0 }

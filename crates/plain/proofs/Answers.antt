@@ -10,7 +10,6 @@ use borrow.Author.Tests.{ltb-false}
 use lib.Dec.{ltb}
 use lib.ListN.{length, getD, take}
 use Rattle.lists.specs.Pick.{pick-ind, pick-true, pick-false, both-ways}
-use Rattle.lists.specs.Place.{zeros-at}
 use Rattle.answer.specs.Refused.{numberOf, fine}
 use Rattle.answer.specs.Outcome.{noCycle}
 use Rattle.answer.specs.declared.Cycle.{Cycle}
@@ -20,13 +19,13 @@ use Rattle.form.specs.declared.Form.{Form}
 use Rattle.form.specs.Ranges.{WellFormed}
 use Rattle.reader.specs.declared.Record.{Record}
 use Rattle.reader.specs.Reading.{readForm}
-use Rattle.legal.specs.Loop.{Loop, Pair, graphOf, loopOf, pairOf}
+use Rattle.legal.specs.Loop.{graphOf, loopOf, pairOf}
 use Rattle.legal.specs.Shape.{sound-form}
 use Rattle.legal.specs.Systems.{knotted}
 use Rattle.legal.specs.Handed.{Handed, handed-none}
 use Rattle.machine.specs.Unique.{Ranks}
 use Rattle.knots.specs.Found.{KnotFound}
-use Rattle.judge.specs.Early.{read-early}
+use Rattle.record.specs.Early.{read-early}
 use Rattle.plain.specs.declared.Looped.{Looped}
 use Rattle.plain.specs.Answer.{roomOf, plainOf, plainRecord, FormLooped, RecordLooped}
 use Rattle.plain.specs.Ascending.{ascending, ascending-sorts}

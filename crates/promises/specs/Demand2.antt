@@ -31,10 +31,9 @@ use Rattle.legal.specs.Judging.{judgeOf}
 use Rattle.legal.specs.Judged as judging
 use Prim.Native.Nat.{_<_, _-_}
 use Rattle.lists.specs.Fold.{top}
-use Rattle.system.specs.System.{Losing}
 use Rattle.legal.specs.Loop.{Loop, Pair}
 use Rattle.legal.specs.Shape.{Sound}
-use Rattle.legal.specs.Systems.{Fits, Impossible, paces}
+use Rattle.legal.specs.Systems.{Fits, Impossible}
 use Rattle.legal.specs.Fitted.{impossible-unfit}
 use borrow.Author.Tests.{ltb-true}
 use Rattle.lists.specs.Place.{zeros-at}

@@ -3,9 +3,10 @@
 use mathlib.Core.Path.{_≡_, refl}
 use mathlib.Core.List.{List, [], _∷_, _++_, map}
 use Prim.Native.Nat.{ℕ}
-use lib.ListN.{getD, take, replicate, set}
+use lib.ListN.{replicate, set}
 use Rattle.lists.specs.Pick.{pick}
 use Rattle.lists.specs.Span.{span}
+use Rattle.lists.specs.Filled.{filled}
 use Rattle.lists.specs.Fold.{count, fold, top}
 use Rattle.lists.specs.First.{firstFrom}
 use Rattle.answer.specs.Refused.{numberOf, detailsOf, fine}
@@ -14,7 +15,7 @@ use Rattle.form.specs.declared.Form.{Form}
 use Rattle.form.specs.Places.{emptyForm}
 use Rattle.system.specs.Rounds.{asks, raise, raiseAll, raises, everyEdge, round, settleFrom, settledOf}
 use Rattle.system.specs.Turned.{topOf, turnedAt}
-use Rattle.legal.specs.Loop.{Loop, Pair, hold, graphOf, loopOf, pairOf}
+use Rattle.legal.specs.Loop.{hold, graphOf, loopOf, pairOf}
 use Rattle.legal.specs.Legal.{occupies, busy}
 use Rattle.legal.specs.Systems.{knots, knotted, lateness, limits, paces}
 use Rattle.legal.specs.Judging.{breaks, brokenEdge, over, overClass, overStep, unitsOf, rulesOf, judgeOf}
@@ -113,5 +114,5 @@ table =
     ∷ []
 
 pub small-loop : map (λ (c : Case). answered (c .asked)) table ≡ map (λ (c : Case). c .given) table
-unfolding small startTable told answer limitsIn answered table smallForm pairIn emptyForm pick span count fold top firstFrom fine hold graphOf loopOf pairOf occupies busy knots knotted lateness limits paces breaks brokenEdge over overClass overStep unitsOf rulesOf judgeOf asks raise raiseAll raises everyEdge round settleFrom settledOf topOf turnedAt retimings withRetiming fittedForm fitOf latencyPart nodesOn unitsPart unitsParts cyclePart floorLength partOf floorRefusal tight spread sweep reach reachedFrom weight insert orderOf uses inUse free blocks ready place fillStep allPlaced fillFrom listRule lengthOf firstStarts numbersOf startsOf withPair firstForm gainedBy droppedBy turnedStarts rotatedStarts rotatedLength rotated tooLong firstAsked turns rotateAsked halved stops shorter turn begun searchFrom searched searchAsked plus minus times difference applied edgesInto operand computed depth issues late lateEdge holds held issue visit stepOf runSteps ran cleared runOf
+unfolding small startTable told answer limitsIn answered table smallForm pairIn emptyForm pick span count fold top firstFrom fine hold graphOf loopOf pairOf occupies busy knots knotted lateness limits paces breaks brokenEdge over overClass overStep unitsOf rulesOf judgeOf asks raise raiseAll raises everyEdge round settleFrom settledOf topOf turnedAt filled retimings withRetiming fittedForm fitOf latencyPart nodesOn unitsPart unitsParts cyclePart floorLength partOf floorRefusal tight spread sweep reach reachedFrom weight insert orderOf uses inUse free blocks ready place fillStep allPlaced fillFrom listRule lengthOf firstStarts numbersOf startsOf withPair firstForm gainedBy droppedBy turnedStarts rotatedStarts rotatedLength rotated tooLong firstAsked turns rotateAsked halved stops shorter turn begun searchFrom searched searchAsked plus minus times difference applied edgesInto operand computed depth issues late lateEdge holds held issue visit stepOf runSteps ran cleared runOf
 small-loop = refl

@@ -2,19 +2,17 @@
 -- Assumes nothing.
 use mathlib.Core.Path.{_≡_, refl, sym, _∙_, ap}
 use mathlib.Core.Bool.{Bool, true, false}
-use mathlib.Core.List.{List, [], _∷_, _++_, map, append-assoc}
-use Prim.Native.Nat.{ℕ, zero, suc, _+_, _-_, _<_}
+use mathlib.Core.List.{List}
+use Prim.Native.Nat.{ℕ, _+_, _-_, _<_}
 use native.Mathlib.Omega.{arith}
-use native.Mathlib.Numerals.{add-one}
-use native.Mathlib.Nat.{zero-add, add-zero, add-suc, suc-add, ne-of-lt}
+use native.Mathlib.Nat.{ne-of-lt}
 use lib.Dec.{eqb}
-use lib.ListN.{length, getD, set, replicate, length-map}
-use lib.Seq.{set-at, getD-set-same, getD-set-other}
+use lib.ListN.{length, getD, set}
+use lib.Seq.{getD-set-same, getD-set-other}
 use borrow.Author.Count.{below-more}
 use borrow.Author.Tests.{eq-eqb, ne-eqb}
+use Rattle.lists.specs.Filled.{filled}
 use Rattle.lists.specs.Pick.{pick, pick-true, pick-false}
-use Rattle.lists.specs.Span.{span, span-length}
-use Rattle.lists.specs.Mapped.{map-snoc}
 use Rattle.form.specs.declared.Form.{Form}
 use Rattle.form.specs.Places.{retimingOf}
 use Rattle.form.specs.Ranges.{WellFormed}
@@ -49,23 +47,6 @@ tights-more f ts e a l is-a all =
     (λ k h. all k h ∙ ap (λ (x : ℕ). eqb x 1) (sym (getD-set-other ts e k a 0 (ne-of-lt h))))
     (is-one _ ∙ ap (λ (x : ℕ). eqb x 1) (sym (getD-set-same ts e a 0 l ∙ is-a)))
 
--- ---- a table that is filled up to place v, and 0 from there on
-
-unfoldable pub filled : (ℕ → ℕ) → ℕ → List ℕ
-filled f v = map f (span 0 v) ++ replicate (64 - v) 0
-
-module _ (f : ℕ → ℕ) where
-  pub filled-none : replicate 64 0 ≡ filled f 0
-  unfolding filled span
-  filled-none = refl
-
-  pub filled-more : (v a : ℕ) (xs : List ℕ) → v < 64 → a ≡ f v → xs ≡ filled f v → set xs v a ≡ filled f (v + 1)
-  unfolding filled
-  filled-more v a xs l is-a is-xs =
-      let more : 64 - v ≡ suc (64 - suc v) = omega arith in
-      let here : length (map f (span 0 v)) ≡ v = length-map (span 0 v) f ∙ span-length 0 v in
-      rw (is-xs, more, set-at (map f (span 0 v)) 0 (replicate (64 - suc v) 0) a v here, add-one v, map-snoc, zero-add, append-assoc, is-a)
-
 -- ---- a form's tables
 
 module _ (f : Form) where
@@ -87,6 +68,6 @@ module _ (f : Form) where
       all (loopOf f) (retimingOf f) refl
       (record { joined = joined-form f well; few-nodes = well .nodes .1; all = refl; out = c; is-head = λ e l. refl; is-tight = h })
 
-  pub weights-form : (v : ℕ) (xs : List ℕ) → v ≡ f .nodes → xs ≡ filled (weight (loopOf f) (retimingOf f)) v → xs ≡ weightsOf (loopOf f) (retimingOf f)
-  unfolding filled weightsOf loopOf graphOf
+  pub weights-form : (v : ℕ) (xs : List ℕ) → v ≡ f .nodes → xs ≡ filled 64 (weight (loopOf f) (retimingOf f)) v → xs ≡ weightsOf (loopOf f) (retimingOf f)
+  unfolding weightsOf loopOf graphOf
   weights-form v xs e h = h ∙ rw e

@@ -16,7 +16,8 @@ use borrow.Author.Tests.{eqb-true, eq-eqb, ne-eqb}
 use Rattle.lists.specs.Pick.{pick, pick-ind, pick-true, pick-false}
 use Rattle.lists.specs.Span.{span}
 use Rattle.lists.specs.Count.{count-same}
-use Rattle.lists.specs.Counted.{count-sum, count-one, sum-bound, span-none}
+use Rattle.lists.specs.Counted.{count-one, sum-bound, span-none}
+use Rattle.lists.specs.Sums.{count-sum}
 use Rattle.lists.specs.Inject.{count-inject}
 use Rattle.lists.specs.Place.{set-view, zeros-at}
 use Rattle.links.specs.Chains.{none-before, none-between, first-key, next-key}

@@ -1,14 +1,12 @@
 -- Tables that tell a loop's edges and which of them are tight, marks that are counted, and the weights as a table.
 -- Assumes nothing.
-use mathlib.Core.Path.{_≡_, _∙_, ap}
-use mathlib.Core.List.{List, _++_, map}
-use Prim.Native.Nat.{ℕ, zero, suc, _+_, _-_, _≤_, _<_}
-use native.Mathlib.Omega.{arith}
-use native.Mathlib.Nat.{zero-add, add-zero, add-suc, suc-add, not-suc-le-zero, le-of-suc-le-suc}
+use mathlib.Core.Path.{_≡_}
+use mathlib.Core.List.{List}
+use Prim.Native.Nat.{ℕ, _-_, _≤_, _<_}
 use lib.Dec.{eqb}
-use lib.ListN.{length, getD, replicate, length-append, length-map, length-replicate, List·getD-append}
-use Rattle.lists.specs.Mapped.{mapped-at}
-use Rattle.lists.specs.Span.{span, span-length}
+use lib.ListN.{length, getD}
+use Rattle.lists.specs.Filled.{filled, filled-at, filled-length}
+use Rattle.lists.specs.Span.{span}
 use Rattle.lists.specs.Fold.{count}
 use Rattle.links.specs.Chains.{Chains}
 use Rattle.system.specs.Graph.{Joined}
@@ -38,26 +36,13 @@ pub record Tells (g : Loop) (r : ℕ → ℕ) (edges : ℕ) (first next heads ti
 
 -- the weight of each node, and 0 past the nodes
 unfoldable pub weightsOf : Loop → (ℕ → ℕ) → List ℕ
-weightsOf g r = map (weight g r) (span 0 (g .graph .nodes)) ++ replicate (64 - g .graph .nodes) 0
+weightsOf g r = filled 64 (weight g r) (g .graph .nodes)
 
 -- the place of a node holds its weight
 pub weights-at : (g : Loop) (r : ℕ → ℕ) (v : ℕ) → v < g .graph .nodes → getD (weightsOf g r) v 0 ≡ weight g r v
 unfolding weightsOf
-weights-at g r v l =
-    let here : v < length (map (weight g r) (span 0 (g .graph .nodes))) = omega (
-      arith,
-      length-map (span 0 (g .graph .nodes)) (weight g r),
-      span-length 0 (g .graph .nodes),
-    ) in
-    List·getD-append (map (weight g r) (span 0 (g .graph .nodes))) (replicate (64 - g .graph .nodes) 0) 0 v here ∙ mapped-at (weight g r) 0 (g .graph .nodes) v l ∙ ap (weight g r) (zero-add v)
+weights-at g r v l = filled-at 64 (weight g r) (g .graph .nodes) v l
 
 pub weights-length : (g : Loop) (r : ℕ → ℕ) → g .graph .nodes ≤ 64 → length (weightsOf g r) ≡ 64
 unfolding weightsOf
-weights-length g r few =
-    omega (
-      arith,
-      length-append (map (weight g r) (span 0 (g .graph .nodes))) (replicate (64 - g .graph .nodes) 0),
-      length-map (span 0 (g .graph .nodes)) (weight g r),
-      span-length 0 (g .graph .nodes),
-      length-replicate {A = ℕ} (64 - g .graph .nodes) 0,
-    )
+weights-length g r few = filled-length 64 (weight g r) (g .graph .nodes) few

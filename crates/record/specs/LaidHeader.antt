@@ -15,7 +15,7 @@ use Rattle.field.specs.declared.Kind.the-variants.{Mark, Version, Count}
 use Rattle.field.specs.Number.{numberAt, bytesOf}
 use Rattle.field.specs.Taking.{onward, wrongAt}
 use Rattle.reader.specs.Tables.{markIn, versionIn, classesIn, nodesIn, edgesIn, headerOf}
-use Rattle.writer.specs.Layout.{headerBytes, layout}
+use Rattle.writer.specs.Layout.{countBytes, headerBytes, layout}
 use Rattle.record.specs.Held.{Held, Fits}
 use Rattle.record.specs.LayoutSize.{header-width}
 use Rattle.record.specs.LayoutSlices.{header-slice}
@@ -41,7 +41,7 @@ pub record HeaderNumbers (f : Form) (s : List ℕ) : Type 0 where
 
 module _ (f : Form) (h : Held f) where
   header-numbers : HeaderNumbers f (layout f)
-  unfolding numberAt headerBytes bytesOf
+  unfolding numberAt countBytes bytesOf
   header-numbers =
       record {
         room = slice-room (layout f) (headerBytes f) 0 11 (header-slice f) (header-width f) (omega arith);

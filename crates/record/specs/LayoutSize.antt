@@ -16,7 +16,7 @@ use Rattle.form.specs.declared.Operation.the-variants.{Add, Sub, Mul}
 use Rattle.form.specs.Places.{classOf, nodeOf, edgeOf, startOf, retimingOf, scheduled, scheduledOf}
 use Rattle.form.specs.Ranges.{WellFormed}
 use Rattle.field.specs.Number.{Bytes, bytesOf}
-use Rattle.writer.specs.Layout.{codeOf, constantOf, classBytes, nodeBytes, edgeBytes, startBytes, headerBytes, classRows, nodeRows, edgeRows, startRows, layout}
+use Rattle.writer.specs.Layout.{codeOf, constantOf, classBytes, nodeBytes, edgeBytes, startBytes, countBytes, headerBytes, classRows, nodeRows, edgeRows, startRows, layout}
 use Rattle.record.specs.Held.{Held, HeldClass, HeldEdge, Fits}
 use Rattle.record.specs.Rows.{bytes-nil, bytes-cons, bytes-three, bytes-append, bytes-of, rows-bytes, rows-length}
 
@@ -42,7 +42,7 @@ start-width s r = refl
 
 -- the header takes 11 bytes
 pub header-width : (f : Form) → length (headerBytes f) ≡ 11
-unfolding headerBytes bytesOf
+unfolding countBytes bytesOf
 header-width f = refl
 
 -- no more starts than nodes
@@ -124,7 +124,7 @@ module _ (f : Form) where
         (bytes-cons (retimingOf f v) [] (h .retiming v (omega arith)) bytes-nil))
 
     header-bytes : Bytes (headerBytes f)
-    unfolding headerBytes
+    unfolding countBytes
     header-bytes =
         let t : List ℕ = bytesOf 2 (f .edges) ++ bytesOf 2 (f .length) in
         bytes-append (82 ∷ 83 ∷ 75 ∷ []) (1 ∷ 0 ∷ f .classes ∷ f .nodes ∷ t) (bytes-three 82 83 75 (omega arith) (omega arith) (omega arith))

@@ -20,3 +20,4 @@ pub mod Laid
 pub mod UsedForm
 pub mod Written
 pub mod RoundTrip
+pub mod Early

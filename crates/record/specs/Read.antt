@@ -18,7 +18,7 @@ use Rattle.field.specs.declared.Cursor.{Cursor}
 use Rattle.reader.specs.declared.Reading.{Reading}
 use Rattle.reader.specs.Tables.{headerOf}
 use Rattle.reader.specs.Reading.{startsRead, normalized, endOf, answered, readForm}
-use Rattle.writer.specs.Layout.{headerBytes, classRows, nodeRows, edgeRows, startRows, layout}
+use Rattle.writer.specs.Layout.{countBytes, headerBytes, classRows, nodeRows, edgeRows, startRows, layout}
 use Rattle.record.specs.Rows.{rows-cut}
 use Rattle.record.specs.LayoutSize.{scheduled-le}
 use Rattle.record.specs.FirstOf.{first-self}
@@ -32,7 +32,7 @@ slices : (s : List ℕ) (at n m : ℕ) → take n (drop at s) ++ take m (drop (a
 slices s at n m = rw (take-add n m (drop at s), drop-drop n at s)
 
 header-same : (f g : Form) → f .classes ≡ g .classes → f .nodes ≡ g .nodes → f .edges ≡ g .edges → f .length ≡ g .length → headerBytes f ≡ headerBytes g
-unfolding headerBytes
+unfolding countBytes
 header-same f g c n e l = rw (c, n, e, l)
 
 -- a record of which every row is read

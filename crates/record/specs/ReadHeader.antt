@@ -13,7 +13,7 @@ use Rattle.field.specs.declared.Kind.the-variants.{Mark, Version, Count}
 use Rattle.field.specs.Number.{Bytes, numberAt, bytesOf, bytes-number}
 use Rattle.field.specs.Taking.{onward}
 use Rattle.reader.specs.Tables.{markIn, versionIn, classesIn, nodesIn, edgesIn, lengthIn, headerOf}
-use Rattle.writer.specs.Layout.{headerBytes}
+use Rattle.writer.specs.Layout.{countBytes, headerBytes}
 use Rattle.record.specs.Fields.{Got, begun, got, slice-cons}
 
 -- what is known of a header that was read
@@ -50,7 +50,7 @@ module _ (s : List ℕ) (b : Bytes s) where
 
   -- a header that is not refused was read
   pub header-read : fine (headerOf s .next .refusal) ≡ true → Head s
-  unfolding headerOf headerBytes bytesOf
+  unfolding headerOf countBytes bytesOf
   header-read f6 =
       let f5 : fine (edgesIn s .next .refusal) ≡ true = begun s (edgesIn s .next) 2 0 512 Count f6 in
       let f4 : fine (nodesIn s .next .refusal) ≡ true = begun s (nodesIn s .next) 2 0 256 Count f5 in

@@ -2,14 +2,13 @@
 -- Assumes nothing.
 use mathlib.Core.Path.{_≡_, refl, sym, ap, subst, _∙_}
 use mathlib.Core.Bool.{Bool, true, false}
-use mathlib.Core.Logic.{_≢_, _⊎_, inl, inr, ⊎-elim}
+use mathlib.Core.Logic.{_⊎_, inl, inr, ⊎-elim}
 use mathlib.Core.List.{List}
 use Prim.Native.Nat.{ℕ, _≤_, _<_}
 use native.Mathlib.Omega.{arith}
 use lib.ListN.{length}
 use lib.Seq.{sets}
 use Rattle.lists.specs.Pick.{pick, pick-true, pick-false, both-ways}
-use Rattle.lists.specs.Place.{zeros-at}
 use Rattle.answer.specs.Refused.{numberOf, fine}
 use Rattle.answer.specs.Outcome.{noCycle}
 use Rattle.answer.specs.declared.Cycle.{Cycle}
@@ -26,11 +25,11 @@ use Rattle.writer.specs.Writing.{refusalOf, written, bufferAfter}
 use Rattle.record.specs.Held.{Held}
 use Rattle.record.specs.Read.{read-well-formed}
 use Rattle.record.specs.ReadHeld.{read-held}
-use Rattle.legal.specs.Loop.{Loop, Pair, loopOf, pairOf}
+use Rattle.legal.specs.Loop.{loopOf, pairOf}
 use Rattle.legal.specs.Systems.{knotted}
 use Rattle.legal.specs.Handed.{Handed, handed-none}
 use Rattle.knots.specs.Found.{KnotFound}
-use Rattle.judge.specs.Early.{read-early}
+use Rattle.record.specs.Early.{read-early}
 use Rattle.rotation.specs.declared.Plan.{Plan}
 use Rattle.rotation.specs.declared.Scheduled.{Scheduled}
 use Rattle.rotation.specs.Rotation.{firstForm}

@@ -1,50 +1,34 @@
 -- The ways that a rotation goes: what the judge refuses, Size, Long, and the form rotated.
 -- Assumes nothing.
-use mathlib.Core.Path.{_≡_, refl, sym, ap, subst, _∙_}
+use mathlib.Core.Path.{_≡_, refl, sym, ap, _∙_}
 use mathlib.Core.Bool.{Bool, true, false, _&&_}
 use mathlib.Core.Logic.{_⊎_, _≢_}
-use mathlib.Core.List.{List}
 use Prim.Native.Nat.{ℕ, _≤_, _<_}
 use native.Mathlib.Omega.{arith}
 use lib.Dec.{ltb}
 use lib.ListN.{length}
 use borrow.Author.Tests.{ltb-true, lt-ltb, le-ltb}
-use Rattle.lists.specs.Pick.{pick, pick-true, pick-false, pick-ind, both-ways}
+use Rattle.lists.specs.Pick.{pick-true, pick-false, pick-ind, both-ways}
 use Rattle.lists.specs.Both.{and-both}
-use Rattle.answer.specs.Refused.{numberOf, fine}
+use Rattle.answer.specs.Refused.{fine}
 use Rattle.answer.specs.Outcome.{noCycle}
 use Rattle.answer.specs.declared.Cycle.{Cycle}
-use Rattle.answer.specs.declared.Refusal.{Refusal}
 use Rattle.answer.specs.declared.Refusal.the-variants.{None, Size, Long, Room}
 use Rattle.form.specs.declared.Form.{Form}
 use Rattle.form.specs.Ranges.{WellFormed}
-use Rattle.field.specs.Number.{Bytes}
-use Rattle.reader.specs.declared.Record.{Record}
-use Rattle.reader.specs.Reading.{readForm}
 use Rattle.writer.specs.Writing.{refusalOf}
 use Rattle.record.specs.Held.{Held}
-use Rattle.record.specs.Read.{read-well-formed}
-use Rattle.legal.specs.Loop.{Loop, Pair, loopOf, pairOf}
+use Rattle.legal.specs.Loop.{loopOf, pairOf}
 use Rattle.legal.specs.Legal.{Legal}
 use Rattle.legal.specs.Judging.{judgeOf}
-use Rattle.legal.specs.Judged.{Judged, bare, knot, rules, judged, judge-accepts}
-use Rattle.legal.specs.Ruled.{dependence, units, kept}
+use Rattle.legal.specs.Judged.{judged, judged-none, judge-accepts}
 use Rattle.legal.specs.Handed.{handed-none}
-use Rattle.judge.specs.Judgement.{judgeRecord, RecordJudgement}
+use Rattle.judge.specs.Judgement.{Judgement}
 use Rattle.judge.specs.declared.Judged as verdict
 use Rattle.rotation.specs.Pairs.{withPair}
 use Rattle.rotation.specs.Rotation.{rotatedLength, rotated, tooLong, turnedForm, rotatedOr}
 use Rattle.rotation.specs.RotatedLaws.{rotated-written}
-use Rattle.rotation.specs.Scheduling.{scheduleRecord, RecordScheduled, Planned, unturned, turns, rotateAsked, rotatedBy}
-
--- a judge that refuses nothing accepts
-judged-none : (g : Loop) (p : Pair) (r : Refusal) → Judged g p r → fine r ≡ true → r ≡ None
-unfolding fine
-judged-none g p r (bare z) e = both-ways e refl
-judged-none g p r (knot n es k) e = both-ways e refl
-judged-none g p r (rules q n free (dependence d t)) e = both-ways e refl
-judged-none g p r (rules q n free (units h k d t)) e = both-ways e refl
-judged-none g p r (rules q n free (kept h u)) e = refl
+use Rattle.rotation.specs.Scheduling.{Planned, unturned, turns, rotateAsked, rotatedBy}
 
 -- what steps can be rotated
 turns-told : (z l : ℕ) → turns z l ≡ true → (1 ≤ z) × (z < l)
@@ -64,49 +48,24 @@ or-length : (f : Form) (z : ℕ) → rotatedOr f z .length ≡ rotatedLength f z
 unfolding rotatedOr turnedForm rotated withPair
 or-length f z = pick-ind (λ (x : Form). x .length ≡ rotatedLength f z) (tooLong f z) (turnedForm f z) (rotated f z) (λ _. refl) (λ _. refl)
 
--- what a record's judge accepts was read, and its form is accepted
-record-accepted : (s : List ℕ) → Bytes s → (j : verdict.Judged) → RecordJudgement s j → fine (j .refusal) ≡ true
-    → (fine (readForm s .refusal) ≡ true) × (judgeOf (readForm s .form) ≡ None)
-unfolding judgeRecord
-record-accepted s bytes j q t = go (fine (readForm s .refusal)) refl
-  where
-    go : (b : Bool) → fine (readForm s .refusal) ≡ b → (fine (readForm s .refusal) ≡ true) × (judgeOf (readForm s .form) ≡ None)
-    go true e =
-        let f : Form = readForm s .form in
-        let is : j .refusal ≡ judgeOf f = q .refusal ∙ pick-true (fine (readForm s .refusal)) _ _ e in
-        (e, judged-none (loopOf f) (pairOf f) (judgeOf f) (judged f (read-well-formed s bytes e)) (sym (ap fine is) ∙ t))
-    go false e = both-ways (sym (ap fine (q .refusal ∙ pick-false (fine (readForm s .refusal)) _ _ e)) ∙ t) e
+-- what the judge accepts, and what it refuses
+module _ (f : Form) (j : verdict.Judged) (q : Judgement f j) where
+  pub judge-accepted : WellFormed f → fine (j .refusal) ≡ true → judgeOf f ≡ None
+  judge-accepted w t = judged-none (loopOf f) (pairOf f) (judgeOf f) (judged f w) (sym (ap fine (q .refusal)) ∙ t)
 
--- so what is read of such a record can be rotated
-pub record-good : (s : List ℕ) → Bytes s → (x : Record) → x ≡ readForm s → (j : verdict.Judged) → RecordJudgement s j → fine (j .refusal) ≡ true
-    → (fine (x .refusal) ≡ true) × WellFormed (x .form) × (judgeOf (x .form) ≡ None)
-record-good s bytes x back j q t =
-    let a = record-accepted s bytes j q t in
-    subst (λ (y : Record). (fine (y .refusal) ≡ true) × WellFormed (y .form) × (judgeOf (y .form) ≡ None)) (sym back)
-    (a .0, read-well-formed s bytes (a .0), a .1)
+  pub accepted-alone : fine (j .refusal) ≡ true → j .cycle ≡ noCycle
+  unfolding fine
+  accepted-alone t = q .handed .none (λ e. both-ways t (ap fine e)) (λ e. both-ways t (ap fine e))
 
--- what the judge refuses of a record is refused of its rotation
-pub rotate-unjudged : (s out : List ℕ) (z : ℕ) (j : verdict.Judged) → RecordJudgement s j → fine (j .refusal) ≡ false
-    → RecordScheduled (rotateAsked z) (rotatedBy z) unturned s out out (record { refusal = j .refusal; size = 0; rotations = 0; cycle = j .cycle })
-unfolding judgeRecord scheduleRecord rotateAsked
-rotate-unjudged s out z j q b = record {
-  refusal = go (fine (readForm s .refusal)) refl;
-  size = sym (pick-false (fine (j .refusal)) _ _ b);
-  rotations = sym (pick-false (fine (j .refusal)) _ _ b);
-  buffer = sym (pick-false (fine (j .refusal)) _ _ b);
-  handed = q .handed;
-}
-  where
-    go : (t : Bool) → fine (readForm s .refusal) ≡ t → j .refusal ≡ scheduleRecord (rotateAsked z) (rotatedBy z) unturned s (length out)
-    go true e =
-        let f : Form = readForm s .form in
-        let is : j .refusal ≡ judgeOf f = q .refusal ∙ pick-true (fine (readForm s .refusal)) _ _ e in
-        let refused : rotateAsked z f ≡ judgeOf f = pick-false (fine (judgeOf f)) _ _ (sym (ap fine is) ∙ b) in
-        is
-        ∙ sym (pick-true (fine (readForm s .refusal)) _ _ e
-        ∙ pick-false (fine (rotateAsked z f)) _ _ (ap fine refused ∙ sym (ap fine is) ∙ b)
-        ∙ refused)
-    go false e = q .refusal ∙ pick-false (fine (readForm s .refusal)) _ _ e ∙ sym (pick-false (fine (readForm s .refusal)) _ _ e)
+  pub rotate-unjudged : (z : ℕ) → fine (j .refusal) ≡ false
+      → Planned (rotateAsked z) (rotatedBy z) unturned f (record { refusal = j .refusal; rotations = 0; cycle = j .cycle; form = f })
+  unfolding rotateAsked
+  rotate-unjudged z b = record {
+    refusal = q .refusal ∙ sym (pick-false (fine (judgeOf f)) _ _ (sym (ap fine (q .refusal)) ∙ b));
+    form = λ t. both-ways t b;
+    rotations = λ t. refl;
+    handed = q .handed;
+  }
 
 module _ (f : Form) (w : WellFormed f) (z : ℕ) (accepted : judgeOf f ≡ None) where
   judge-fine : fine (judgeOf f) ≡ true

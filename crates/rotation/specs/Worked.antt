@@ -1,14 +1,14 @@
 -- The small loop rotated.
 -- Assumes nothing.
 use mathlib.Core.Path.{_≡_, refl}
-use mathlib.Core.List.{List, [], _∷_, _++_, map}
+use mathlib.Core.List.{List, [], _∷_, _++_}
 use Prim.Native.Nat.{ℕ}
-use lib.ListN.{getD, take, replicate, set}
+use lib.ListN.{take}
 use Rattle.lists.specs.Pick.{pick}
 use Rattle.lists.specs.Span.{span}
+use Rattle.lists.specs.Filled.{filled}
 use Rattle.lists.specs.Fold.{count, fold, top}
 use Rattle.form.specs.declared.Form.{Form}
-use Rattle.form.specs.declared.BodyStep.{BodyStep}
 use Rattle.form.specs.declared.Operation.the-variants.{Add, Mul}
 use Rattle.form.specs.Places.{emptyForm, withCounts, withClass, withNode, withEdge}
 use Rattle.system.specs.Rounds.{asks, raise, raiseAll, raises, everyEdge, round, settleFrom, settledOf}
@@ -42,5 +42,5 @@ pub worked : (pairIn (firstForm smallForm) ≡ 4 ∷ 1 ∷ 3 ∷ 4 ∷ 0 ∷ 0 �
     × (pairIn (rotated (firstForm smallForm) 1) ≡ 3 ∷ 1 ∷ 2 ∷ 3 ∷ 1 ∷ 0 ∷ 0 ∷ [])
     × (pairIn (rotated (rotated (firstForm smallForm) 1) 1) ≡ 4 ∷ 3 ∷ 1 ∷ 2 ∷ 1 ∷ 0 ∷ 0 ∷ [])
     × (pairIn (rotated (rotated (firstForm smallForm) 1) 2) ≡ 3 ∷ 2 ∷ 2 ∷ 1 ∷ 2 ∷ 1 ∷ 0 ∷ [])
-unfolding smallForm pairIn emptyForm pick span count fold top hold graphOf loopOf pairOf lateness limits asks raise raiseAll raises everyEdge round settleFrom settledOf topOf turnedAt retimings tight spread sweep reach reachedFrom weight insert orderOf uses inUse free blocks ready place fillStep allPlaced fillFrom listRule lengthOf firstStarts numbersOf startsOf withPair firstForm gainedBy droppedBy turnedStarts rotatedStarts rotatedLength rotated tooLong
+unfolding smallForm pairIn emptyForm pick span count fold top hold graphOf loopOf pairOf lateness limits asks raise raiseAll raises everyEdge round settleFrom settledOf topOf turnedAt filled retimings tight spread sweep reach reachedFrom weight insert orderOf uses inUse free blocks ready place fillStep allPlaced fillFrom listRule lengthOf firstStarts numbersOf startsOf withPair firstForm gainedBy droppedBy turnedStarts rotatedStarts rotatedLength rotated tooLong
 worked = (refl, refl, refl, refl)

@@ -13,7 +13,6 @@ ghost use Rattle.reader.specs.Reading.{readForm};
 ghost use Rattle.writer.specs.Layout.{layout};
 ghost use Rattle.legal.specs.Legal.{Legal};
 ghost use Rattle.legal.specs.Loop.{loopOf, pairOf};
-ghost use Rattle.legal.specs.Judging.{judgeOf};
 ghost use Rattle.legal.specs.Systems.{knotted};
 ghost use Rattle.list_rule.specs.Rule.{startAt, lengthOf};
 ghost use Rattle.list_rule.specs.Tables.{numbersOf};
@@ -184,8 +183,7 @@ pub fn write_plan(plan: Plan, out: &mut [u8]) -> Scheduled
             cycle,
         };
     }
-    let form = plan.form;
-    let written = writer::write_taken(form, out);
+    let written = writer::write_taken(plan.form, out);
     let refused = written.refusal;
     Scheduled {
         refusal: refused,
@@ -231,8 +229,7 @@ pub fn first(record: &[u8], out: &mut [u8]) -> Scheduled
             cycle: Cycle::none(),
         };
     }
-    let form = read.form;
-    write_plan(first_plan(form), out)
+    write_plan(first_plan(read.form), out)
 }
 
 // Whether a body of this length can be rotated by so many steps.
@@ -245,16 +242,28 @@ fn turns_by(steps: u16, length: u16) -> bool
     steps < length
 }
 
-// Of a form that the judge accepts: Size, then Long, else the form rotated.
+// What the judge refuses, then Size, then Long, else the form rotated.
 fn rotate_plan(form: Form, steps: u16) -> Plan
-    requires { ⌜ WellFormed form × (judgeOf form ≡ None) ⌝ }
+    requires { ⌜ WellFormed form ⌝ }
     ensures { λ r. ⌜ Planned (rotateAsked steps) (rotatedBy steps) unturned form r ⌝ }
 {
+    let times = tables::times_of(form);
+    let judged = judge::judge_tables(form.edges, &form.from, &form.to, &form.delays, times);
+    let unjudged = judged.refusal;
+    let cycle = judged.cycle;
+    if !unjudged.is_fine() {
+        return Plan {
+            refusal: unjudged,
+            rotations: 0,
+            cycle,
+            form,
+        };
+    }
     if !turns_by(steps, form.length) {
         return Plan {
             refusal: Refusal::Size(steps as u32),
             rotations: 0,
-            cycle: Cycle::none(),
+            cycle,
             form,
         };
     }
@@ -263,34 +272,31 @@ fn rotate_plan(form: Form, steps: u16) -> Plan
         return Plan {
             refusal: Refusal::Long,
             rotations: 0,
-            cycle: Cycle::none(),
+            cycle,
             form,
         };
     }
     Plan {
         refusal: Refusal::None,
         rotations: 0,
-        cycle: Cycle::none(),
+        cycle,
         form: turned,
     }
 }
 
-// The record rotated by so many steps, into `out`; a refusal leaves `out` as it was. What the judge refuses comes first.
+// The record rotated by so many steps, into `out`; a refusal leaves `out` as it was.
 pub fn rotate(record: &[u8], steps: u16, out: &mut [u8]) -> Scheduled
     ensures { λ r. ⌜ RecordScheduled (rotateAsked steps) (rotatedBy steps) unturned (now («record» .entry)) (now (out .entry)) (now (out .exit)) r ⌝ }
 {
-    let judged = judge::judge(record);
-    let refused = judged.refusal;
-    let cycle = judged.cycle;
+    let read = reader::read(record);
+    let refused = read.refusal;
     if !refused.is_fine() {
         return Scheduled {
             refusal: refused,
             size: 0,
             rotations: 0,
-            cycle,
+            cycle: Cycle::none(),
         };
     }
-    let read = reader::read(record);
-    let form = read.form;
-    write_plan(rotate_plan(form, steps), out)
+    write_plan(rotate_plan(read.form, steps), out)
 }

@@ -1,6 +1,5 @@
 // The library from the command line: what the words ask for. The record stands at standard input; what is
 // refused is told on standard error, in one line.
-mod draw;
 mod tell;
 mod work;
 

@@ -2,7 +2,6 @@
 ghost use mathlib.Core.Path.{_≡_};
 ghost use Prim.Native.Nat.{_≤_};
 ghost use lib.ListN.{length};
-use crate::draw::draw;
 use crate::tell;
 use libc::STDOUT_FILENO;
 use words::Command;
@@ -44,6 +43,22 @@ pub(crate) fn list() {
     io::write_all(STDOUT_FILENO, &out[..size]);
 }
 
+// Room for the table of what the judge accepts, at most 106,347 bytes (`table-size`, drawing/specs/Size): 512 rows
+// of 207 (6 for the step, for each of four classes 2 and six for each of eight units, the line's end), and above
+// them the heads, as long as a row, and four lines of 39.
+fn page() -> [u8; 131072]
+    ensures { λ r. ⌜ length r ≡ 131072 ⌝ }
+{
+    [0; 131072]
+}
+
+fn draw(record: &[u8]) {
+    let mut out = page();
+    let drawn = drawing::draw(record, &mut out);
+    let size = tell::size_in(drawn, &out);
+    io::write_all(STDOUT_FILENO, &out[..size]);
+}
+
 pub(crate) fn table() {
     let mut bytes = io::buffer();
     let length = io::read_full(0, &mut bytes);
@@ -52,9 +67,9 @@ pub(crate) fn table() {
         tell::refusal(&bytes[..length], &answer);
         return;
     }
+    draw(&bytes[..length]);
     let read = reader::read(&bytes[..length]);
     let form = read.form;
-    draw(form);
     rsk_c::rsk_floor(&bytes[..length], &mut answer);
     tell::print_floor(&bytes[..length], &answer);
     if form.length as u32 == answer[1] {

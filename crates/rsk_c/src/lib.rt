@@ -20,8 +20,7 @@ pub extern "C" fn rsk_rewrite(record: &[u8], out: &mut [u8], answer: &mut [u32; 
     if !refusal.is_fine() {
         return answer::fill(answer, refusal, answer::numbers_of(0, 0, 0), Cycle::none());
     }
-    let form = read.form;
-    let written = writer::write_taken(form, out);
+    let written = writer::write_taken(read.form, out);
     let refused = written.refusal;
     answer::fill(
         answer,
@@ -38,8 +37,8 @@ pub extern "C" fn rsk_judge(record: &[u8], answer: &mut [u32; 69]) -> u32
 {
     let judged = judge::judge(record);
     let refusal = judged.refusal;
-    let cycle = judged.cycle;
-    answer::fill(answer, refusal, answer::numbers_of(0, 0, 0), cycle)
+    let knot = judged.cycle;
+    answer::fill(answer, refusal, answer::numbers_of(0, 0, 0), knot)
 }
 
 // The record with its retiming fitted afresh; its size.

@@ -1,28 +1,26 @@
--- Tests and a product's bound; the edge rule as the code asks it, edge after edge; tables filled node after node, and counts over them.
+-- Tests and a product's bound; the edge rule as the code asks it, edge after edge; counts over the nodes.
 -- Assumes nothing.
 use mathlib.Core.Path.{_≡_, refl, sym, _∙_}
 use mathlib.Core.Bool.{Bool, true, false}
 use mathlib.Core.List.{List}
 use Prim.Native.Nat.{ℕ, _+_, _-_, _*_, _≤_, _<_}
-use native.Mathlib.Nat.{mul-le-mul, sub-zero, zero-add, ne-of-lt, not-suc-le-zero}
+use native.Mathlib.Nat.{mul-le-mul, sub-zero, zero-add}
 use native.Mathlib.Numerals.{add-one}
 use native.Mathlib.Omega.{arith}
-use lib.ListN.{length, getD, set}
-use lib.Seq.{getD-set-same, getD-set-other}
-use borrow.Author.Count.{below-more}
+use lib.ListN.{length, getD}
 use borrow.Author.Needs.{needs}
 use borrow.Author.Tests.{le-ltb, lt-ltb, le-leb, lt-leb, eq-eqb, ne-eqb}
 use Rattle.lists.specs.Pick.{pick}
 use Rattle.lists.specs.Span.{span}
 use Rattle.lists.specs.First.{firstFrom, first-here, first-next}
 use Rattle.lists.specs.Fold.{count, count-snoc}
-use Rattle.form.specs.declared.Form.{Form}
-use Rattle.form.specs.Places.{nodeOf, latencyOf, startOf, retimingOf}
-use Rattle.form.specs.Ranges.{WellFormed}
-use Rattle.legal.specs.Loop.{graphOf, loopOf, pairOf}
+use Rattle.legal.specs.Loop.{Loop, Pair, latency}
 use Rattle.legal.specs.Legal.{EdgeRule}
 use Rattle.legal.specs.Judging.{breaks}
-use Rattle.rules.specs.Flat.{Flat, occupiesAt, busyIn}
+use Rattle.tables.specs.declared.Timetable.{Timetable}
+use Rattle.tables.specs.Edges.{Ends, Told}
+use Rattle.tables.specs.Times.{Timed}
+use Rattle.rules.specs.Busy.{occupiesAt, busyIn}
 
 -- a definition's tests, settled from what a branch showed
 pub ruleset tests = (needs, le-ltb, lt-ltb, le-leb, lt-leb, eq-eqb, ne-eqb)
@@ -59,66 +57,42 @@ module _ (test : ℕ → Bool) (n left whole : ℕ) (some : 0 < left) (within : 
       let next : n - (left - 1) ≡ n - left + 1 = omega arith in
       rw (next, less) (first-next test n (n - left) whole (omega arith) fails whole-rest)
 
-abbrev pub tailOf : Form → ℕ → ℕ
-tailOf f e = getD (f .from) e 0
-
-abbrev pub headOf : Form → ℕ → ℕ
-headOf f e = getD (f .to) e 0
-
--- an edge's nodes and the class of its tail are places of the form
-pub record Ends (f : Form) (e : ℕ) : Type 0 where
-  pub tail-in : tailOf f e < 64
-  pub head-in : headOf f e < 64
-  pub class-in : nodeOf f (tailOf f e) .class < 4
-
-pub ends-in : (f : Form) → WellFormed f → (e : ℕ) → e < f .edges → Ends f e
-ends-in f w e h =
-    let g = w .edge e h in
-    record { tail-in = omega arith; head-in = omega arith; class-in = omega (arith, w .node (tailOf f e) (g .from)) }
-
 -- the steps in which head and tail begin, each some iterations later, so that no number is below 0
-pub record Sides (f : Form) (e head tail : ℕ) : Type 0 where
-  pub is-head : head ≡ startOf f (headOf f e) + f .length * (getD (f .delays) e 0 + retimingOf f (tailOf f e))
-  pub is-tail : tail ≡ startOf f (tailOf f e) + f .length * retimingOf f (headOf f e)
+pub record Sides (g : Loop) (p : Pair) (e head tail works : ℕ) : Type 0 where
+  pub is-head : head ≡ p .start (g .graph .head e) + p .length * (g .delay e + p .retiming (g .graph .tail e))
+  pub is-tail : tail ≡ p .start (g .graph .tail e) + p .length * p .retiming (g .graph .head e)
+  pub is-works : works ≡ latency g (g .graph .tail e)
 
--- of the delays and the retimings of tail and head that the code reads
-pub sides-are : (f : Form) (e d r s head tail : ℕ) → d ≡ getD (f .delays) e 0 → r ≡ retimingOf f (tailOf f e) → s ≡ retimingOf f (headOf f e)
-    → head ≡ startOf f (headOf f e) + f .length * (d + r) → tail ≡ startOf f (tailOf f e) + f .length * s → Sides f e head tail
-sides-are f e d r s head tail is-d is-r is-s is-head is-tail = record { is-head = is-head ∙ rw (is-d, is-r); is-tail = is-tail ∙ rw is-s }
+-- of the delays, the retimings of tail and head and the latency that the code reads
+module _ (g : Loop) (p : Pair) (edges : ℕ) (from to delays : List ℕ) (t : Timetable)
+    (ends : Ends (t .nodes) edges from to) (told : Told g (t .nodes) edges from to delays) (timed : Timed g p t) where
+  pub sides-are : (e d r s head tail works : ℕ) → e < edges
+      → d ≡ getD delays e 0 → r ≡ getD (t .retiming) (getD from e 0) 0 → s ≡ getD (t .retiming) (getD to e 0) 0
+      → head ≡ getD (t .start) (getD to e 0) 0 + t .length * (d + r) → tail ≡ getD (t .start) (getD from e 0) 0 + t .length * s
+      → works ≡ getD (t .latency) (getD from e 0) 0 → Sides g p e head tail works
+  sides-are e d r s head tail works l is-d is-r is-s is-head is-tail is-works =
+      let u = ends .tail-in e l in
+      let v = ends .head-in e l in
+      record {
+        is-head = is-head ∙ rw (told .is-tail e l, told .is-head e l, told .is-delay e l, timed .is-length, timed .starts _ v, timed .retimed, is-d, is-r);
+        is-tail = is-tail ∙ rw (told .is-tail e l, told .is-head e l, timed .is-length, timed .starts _ u, timed .retimed, is-s);
+        is-works = is-works ∙ rw (told .is-tail e l, timed .takes _ u);
+      }
 
-module _ (f : Form) (e head tail : ℕ) (s : Sides f e head tail) where
-  pub edge-breaks : head < tail + latencyOf f (tailOf f e) → breaks (loopOf f) (pairOf f) e ≡ true
-  unfolding breaks loopOf pairOf graphOf
+module _ (g : Loop) (p : Pair) (e head tail works : ℕ) (s : Sides g p e head tail works) where
+  pub edge-breaks : head < tail + works → breaks g p e ≡ true
+  unfolding breaks
   edge-breaks h =
-      let broken : startOf f (headOf f e) + f .length * (getD (f .delays) e 0 + retimingOf f (tailOf f e)) < startOf f (tailOf f e) + latencyOf f (tailOf f e) + f .length * retimingOf f (headOf f e) = omega arith in
+      let broken : p .start (g .graph .head e) + p .length * (g .delay e + p .retiming (g .graph .tail e)) < p .start (g .graph .tail e) + latency g (g .graph .tail e) + p .length * p .retiming (g .graph .head e) = omega arith in
       lt-ltb _ _ broken
 
-  pub edge-keeps : tail + latencyOf f (tailOf f e) ≤ head → breaks (loopOf f) (pairOf f) e ≡ false
-  unfolding breaks loopOf pairOf graphOf
+  pub edge-keeps : tail + works ≤ head → breaks g p e ≡ false
+  unfolding breaks
   edge-keeps h =
-      let kept : EdgeRule (loopOf f) (pairOf f) e = omega arith in
+      let kept : EdgeRule g p e = omega arith in
       le-ltb _ _ kept
 
--- ---- the tables
-
--- a place more of a table is filled
-filled-more : (want : ℕ → ℕ) (xs : List ℕ) (v : ℕ) → v < length xs → ((u : ℕ) → u < v → getD xs u 0 ≡ want u)
-    → (u : ℕ) → u < v + 1 → getD (set xs v (want v)) u 0 ≡ want u
-filled-more want xs v h all =
-    below-more (λ u. getD (set xs v (want v)) u 0 ≡ want u) v (λ u l. getD-set-other xs v u (want v) 0 (ne-of-lt l) ∙ all u l) (getD-set-same xs v (want v) 0 h)
-
-pub flat-none : (f : Form) (ks ss : List ℕ) → Flat f 0 ks ss
-flat-none f ks ss = record { kind = λ v h. absurd (not-suc-le-zero h); start = λ v h. absurd (not-suc-le-zero h) }
-
-pub flat-more : (f : Form) (v : ℕ) (ks ss : List ℕ) → v < length ks → v < length ss → Flat f v ks ss
-    → Flat f (v + 1) (set ks v (nodeOf f v .class)) (set ss v (startOf f v))
-flat-more f v ks ss h k t = record {
-  kind = filled-more (λ u. nodeOf f u .class) ks v h (t .kind);
-  start = filled-more (startOf f) ss v k (t .start);
-}
-
-pub flat-all : (f : Form) (n v : ℕ) (ks ss : List ℕ) → n ≤ v → Flat f v ks ss → Flat f n ks ss
-flat-all f n v ks ss h t = record { kind = λ u l. t .kind u (omega arith); start = λ u l. t .start u (omega arith) }
+-- ---- the nodes that hold a unit
 
 module _ (ks ss : List ℕ) (c h q : ℕ) where
   pub busy-none : busyIn ks ss c h q 0 ≡ 0

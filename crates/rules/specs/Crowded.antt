@@ -1,7 +1,7 @@
 -- Steps that hold more of a class than its units: such a class has a node that starts in the lowest of them, and the lowest is what the unit rule refuses.
 -- Assumes nothing.
-use mathlib.Core.Path.{_≡_, refl, sym, _∙_}
-use mathlib.Core.Bool.{Bool, true, false, _&&_, true≢false, false≢true}
+use mathlib.Core.Path.{_≡_, sym, _∙_}
+use mathlib.Core.Bool.{Bool, true, false, _&&_, true≢false}
 use mathlib.Core.Logic.{_⊎_, ⊎-elim}
 use Prim.Native.Nat.{ℕ, zero, suc, _+_, _≤_, _<_}
 use native.Mathlib.Omega.{arith}
@@ -10,15 +10,12 @@ use lib.Dec.{eqb, leb, ltb}
 use borrow.Author.Tests.{ltb-true, ltb-false, leb-true, eqb-true, lt-ltb, le-leb, lt-leb, eq-eqb}
 use Rattle.lists.specs.Pick.{pick-true, pick-false}
 use Rattle.lists.specs.First.{first-is}
+use Rattle.lists.specs.Both.{and-both}
 use Rattle.lists.specs.Count.{count-le, count-some, some-or-none}
 use Rattle.answer.specs.declared.Refusal.the-variants.{None, Units}
 use Rattle.legal.specs.Loop.{Loop, Pair, runsOn, hold}
 use Rattle.legal.specs.Legal.{occupies, busy}
 use Rattle.legal.specs.Judging.{over, overClass, overStep, unitsOf}
-
-both : (a b : Bool) → a && b ≡ true → (a ≡ true) × (b ≡ true)
-both true b e = (refl, e)
-both false b e = absurd (false≢true e)
 
 module _ (g : Loop) (p : Pair) where
   -- node v runs on class c and holds its unit in step q
@@ -30,8 +27,8 @@ module _ (g : Loop) (p : Pair) where
   occupies-holds : (c q v : ℕ) → occupies g p c q v ≡ true → Holds c q v
   unfolding occupies
   occupies-holds c q v e =
-      let a = both _ _ e in
-      let b = both _ _ (a .1) in
+      let a = and-both _ _ e in
+      let b = and-both _ _ (a .1) in
       record { class = eqb-true _ _ (a .0); from = leb-true _ _ (b .0); to = ltb-true _ _ (b .1) }
 
   holds-occupies : (c q v : ℕ) → Holds c q v → occupies g p c q v ≡ true
@@ -76,7 +73,7 @@ module _ (g : Loop) (p : Pair) where
   over-start c (suc q) e =
       let many : g .class c .units < busy g p c (suc q) = ltb-true _ _ e in
       ⊎-elim
-      (λ n. let b = both _ _ (n .2) in start-at c (suc q) (n .0) (n .1) (eqb-true _ _ (b .0)) (eqb-true _ _ (b .1)) e)
+      (λ n. let b = and-both _ _ (n .2) in start-at c (suc q) (n .0) (n .1) (eqb-true _ _ (b .0)) (eqb-true _ _ (b .1)) e)
       (λ n.
       let more : g .class c .units < busy g p c q = omega (arith, before-holds c q n) in
       let s = over-start c q (lt-ltb _ _ more) in

@@ -1,20 +1,14 @@
 // The two rules of a schedule: every edge's head waits for its tail, and no step holds more of a class than its units.
-ghost use mathlib.Core.Logic.{_≢_};
 ghost use mathlib.Core.Path.{_≡_};
 ghost use Prim.Native.Nat.{_+_, _*_, _≤_, _<_};
-ghost use Rattle.form.specs.Ranges.{WellFormed};
-ghost use Rattle.legal.specs.Loop.{loopOf, pairOf, hold};
+ghost use Rattle.legal.specs.Loop.{Loop, Pair, hold};
 ghost use Rattle.legal.specs.Judging.{brokenEdge, unitsOf};
-ghost use Rattle.rules.specs.Flat.{Flat, occupiesAt, busyIn};
+ghost use Rattle.tables.specs.Edges.{Ends, Told};
+ghost use Rattle.tables.specs.Times.{Sound, Timed};
+ghost use Rattle.rules.specs.Busy.{occupiesAt, busyIn, Seated};
 use answer::Refusal;
 use form::Class;
-use form::Form;
-
-// The class and the start of each node, in tables that loops can borrow.
-struct Timetable {
-    kind: [u8; 64],
-    start: [u16; 64],
-}
+use tables::Timetable;
 
 // A byte as a u16; the bound spares each use a proof.
 fn wide(x: u8) -> u16
@@ -31,58 +25,42 @@ fn later(step: u16, length: u16, iterations: u16) -> u32
 }
 
 // The lowest edge that breaks the edge rule, or the number of edges.
-pub fn broken_edge(form: Form) -> u16
-    requires { ⌜ WellFormed form ⌝ }
-    ensures { λ r. ⌜ r ≡ brokenEdge (loopOf form) (pairOf form) ⌝ }
+pub fn broken_edge<'a>(
+    edges: u16,
+    from: &'a [u8; 256],
+    to: &'a [u8; 256],
+    delays: &'a [u8; 256],
+    times: Timetable,
+) -> u16
+    requires { ⌜ Ends (times .nodes) edges (now from) (now to) ⌝ }
+    ensures { λ r. ⌜ ((g : Loop) (p : Pair) → Told g (times .nodes) edges (now (from .entry)) (now (to .entry)) (now (delays .entry)) → Timed g p times → r ≡ brokenEdge g p) ⌝ }
 {
-    let length = form.length;
-    let mut left = form.edges;
+    let length = times.length;
+    let mut left = edges;
     while 0 < left {
-        let e = form.edges - left;
+        let e = edges - left;
         let i = e as usize;
-        let tail = form.from[i] as usize;
-        let head = form.to[i] as usize;
-        let class = form.class[form.node[tail].class as usize];
-        let delays = wide(form.delays[i]);
-        let head_begins = later(
-            form.start[head].0,
-            length,
-            delays + wide(form.retiming[tail]),
-        );
-        let tail_begins = later(form.start[tail].0, length, wide(form.retiming[head]));
-        if head_begins < tail_begins + class.latency as u32 {
+        let tail = from[i] as usize;
+        let head = to[i] as usize;
+        let between = wide(delays[i]) + wide(times.retiming[tail]);
+        let head_begins = later(times.start[head], length, between);
+        let tail_begins = later(times.start[tail], length, wide(times.retiming[head]));
+        if head_begins < tail_begins + wide(times.latency[tail]) as u32 {
             return e;
         }
         left -= 1;
     }
-    form.edges
+    edges
 }
 
 // How many steps an operation holds its unit.
-fn hold_of(class: Class) -> u8
+pub fn hold_of(class: Class) -> u8
     ensures { λ r. ⌜ r ≡ hold class ⌝ }
 {
     if class.pipelined == 0 {
         return class.latency;
     }
     1
-}
-
-// The nodes' classes and starts; 0 past the nodes.
-fn flatten(form: Form) -> Timetable
-    requires { ⌜ form .nodes ≤ 64 ⌝ }
-    ensures { λ t. ⌜ Flat form (form .nodes) (t .kind) (t .start) ⌝ }
-{
-    let mut kind = [0u8; 64];
-    let mut start = [0u16; 64];
-    let nodes = form.nodes as usize;
-    let mut v: usize = 0;
-    while v < nodes {
-        kind[v] = form.node[v].class;
-        start[v] = form.start[v].0;
-        v += 1;
-    }
-    Timetable { kind, start }
 }
 
 // Whether an operation on class `kind` that starts at `start` holds a unit of `class` in `step`.
@@ -99,7 +77,7 @@ fn occupies(kind: u8, start: u16, class: u8, hold: u8, step: u16) -> bool
 }
 
 // How many nodes hold a unit of `class` in `step`.
-fn busy_in<'a>(
+pub fn busy_in<'a>(
     nodes: u8,
     kind: &'a [u8; 64],
     start: &'a [u16; 64],
@@ -128,25 +106,23 @@ fn spot(step: u16, class: u8) -> u32
 }
 
 // Units with the lowest overfull step and its lowest class. A node of that class starts in it, or the step before would hold as much.
-pub fn crowded(form: Form) -> Refusal
-    requires { ⌜ WellFormed form ⌝ }
-    requires { ⌜ form .length ≢ 0 ⌝ }
-    ensures { λ r. ⌜ r ≡ unitsOf (loopOf form) (pairOf form) ⌝ }
+pub fn crowded(times: Timetable) -> Refusal
+    requires { ⌜ Sound times ⌝ }
+    ensures { λ r. ⌜ ((g : Loop) (p : Pair) → Timed g p times → Seated g p → r ≡ unitsOf g p) ⌝ }
 {
-    let table = flatten(form);
-    let past = spot(form.length + 1, 0);
+    let past = spot(times.length, 4);
     let mut lowest = past;
-    for v in 0..form.nodes {
+    for v in 0..times.nodes {
         let i = v as usize;
-        let number = table.kind[i];
-        let step = table.start[i];
+        let number = times.kind[i];
+        let step = times.start[i];
         let here = spot(step, number);
         if here < lowest {
-            let class = form.class[number as usize];
+            let class = times.class[number as usize];
             let busy = busy_in(
-                form.nodes,
-                &table.kind,
-                &table.start,
+                times.nodes,
+                &times.kind,
+                &times.start,
                 number,
                 hold_of(class),
                 step,

@@ -1,10 +1,10 @@
 -- Laws that the proofs of this crate share: buffers cleared, steps of bodies, the depth, the nodes placed in order.
 -- Assumes nothing.
-use mathlib.Core.Path.{_≡_, refl, sym}
-use mathlib.Core.List.{List, map}
+use mathlib.Core.Path.{_≡_, refl}
+use mathlib.Core.List.{List}
 use mathlib.Core.Bool.{true, false}
 use mathlib.Core.Logic.{_≢_}
-use Prim.Native.Nat.{ℕ, _+_, _-_, _*_, _≤_, _<_, max}
+use Prim.Native.Nat.{ℕ, _+_, _-_, _*_, _≤_, _<_}
 use native.Mathlib.Omega.{arith}
 use native.Mathlib.Numerals.{add-one}
 use native.Mathlib.Nat.{mul-le-mul}
@@ -12,13 +12,12 @@ use borrow.Author.Needs.{needs}
 use borrow.Author.Tests.{eq-eqb, ne-eqb, le-leb, lt-leb, le-ltb, lt-ltb}
 use lib.Dec.{ltb}
 use lib.ListN.{getD, set}
-use Rattle.lists.specs.Span.{span}
-use Rattle.lists.specs.Fold.{top}
-use Rattle.lists.specs.Sums.{top-none, top-last, top-under}
+use Rattle.lists.specs.Sums.{top-under}
 use Rattle.form.specs.declared.Form.{Form}
 use Rattle.form.specs.Places.{retimingOf}
 use Rattle.form.specs.Ranges.{WellFormed}
 use Rattle.legal.specs.Loop.{graphOf, loopOf, pairOf}
+use Rattle.tables.specs.Most.{mostOf}
 use Rattle.machine.specs.Run.{depth, cleared}
 use Rattle.run.specs.Tables.{startIn}
 use Rattle.run.specs.Late.{missing}
@@ -72,21 +71,6 @@ module _ (nodes : ℕ) (finish : List ℕ) (i t u d : ℕ) where
 
 -- ---- the depth
 
-module _ (f : Form) where
-  -- the largest of the first v retimings
-  unfoldable pub depthTo : ℕ → ℕ
-  depthTo v = top (map (retimingOf f) (span 0 v))
-
-  pub depth-none : 0 ≡ depthTo 0
-  unfolding depthTo
-  depth-none = sym (top-none (retimingOf f) 0)
-
-  pub depth-more : (v d r : ℕ) → d ≡ depthTo v → r ≡ max d (retimingOf f v) → r ≡ depthTo (v + 1)
-  unfolding depthTo
-  depth-more v d r x y = rw (add-one, top-last, ← x) y
-
-  pub depth-whole : (v d : ℕ) → WellFormed f → f .length ≢ 0 → d ≡ depthTo v → v ≡ f .nodes → (d ≡ depth (loopOf f) (pairOf f)) × (d ≤ 63)
-  unfolding depthTo depth loopOf graphOf pairOf
-  depth-whole v d w some x h =
-      let e : d ≡ top (map (retimingOf f) (span 0 (f .nodes))) = rw h at x in
-      (e, omega (arith, top-under (retimingOf f) 63 (f .nodes) (λ u l. w .schedule some .starts u l .retiming)))
+pub depth-whole : (f : Form) (d : ℕ) → WellFormed f → f .length ≢ 0 → d ≡ mostOf (f .retiming) (f .nodes) → (d ≡ depth (loopOf f) (pairOf f)) × (d ≤ 63)
+unfolding mostOf depth loopOf graphOf pairOf
+depth-whole f d w some e = (e, omega (arith, e, top-under (retimingOf f) 63 (f .nodes) (λ u l. w .schedule some .starts u l .retiming)))

@@ -22,12 +22,10 @@ use Rattle.answer.specs.declared.Refusal.the-variants.{None}
 use Rattle.form.specs.declared.Form.{Form}
 use Rattle.form.specs.Places.{classOf, nodeOf, startOf, retimingOf}
 use Rattle.form.specs.Ranges.{WellFormed}
-use Rattle.links.specs.Chains.{Chains, leads-on, leads-in, begins-in}
 use Rattle.legal.specs.Loop.{Loop, Pair, graphOf, loopOf, pairOf}
 use Rattle.legal.specs.Shape.{sound-form, placed-form}
 use Rattle.machine.specs.Run.{Machine, depth, issues, issue, visit, iteration}
 use Rattle.machine.specs.Moments.{repOf, issueStep}
-use Rattle.operands.specs.Tables.{Fits, Tells, Follows}
 use Rattle.run.specs.Order.{Rising, order-rising, order-length}
 use Rattle.run.specs.Repeat.{order, stepIn, visitIn, repeated, visits-stay}
 use Rattle.run.specs.Units.{Boarded, Point, point-later}
@@ -47,29 +45,6 @@ issue-none g p starts k t v m =
     pick-ind (λ (r : Machine). fine (r .refusal) ≡ true → r .refusal ≡ None) _ _ _
     (λ e h. absurd (false≢true h))
     (λ e. pick-ind (λ (r : Machine). fine (r .refusal) ≡ true → r .refusal ≡ None) _ _ _ (λ q h. refl) (λ q h. absurd (false≢true h)))
-
--- ---- a form's tables
-
-module _ (f : Form) (w : WellFormed f) (first next : List ℕ) (links : Chains (λ e. getD (f .to) e 0) (f .edges) first next) where
-  pub fits-form : Fits (f .nodes) (f .edges) (f .from) (f .delays) next
-  fits-form = record {
-    few = w .edges;
-    tail-in = λ e l. w .edge e l .from;
-    delay-in = λ e l. w .edge e l .delays;
-    leads-on = leads-on _ _ _ _ links;
-    leads-in = leads-in _ _ _ _ links;
-  }
-
-  pub tells-form : Tells (loopOf f) (f .nodes) (f .edges) (f .from) (f .delays)
-  unfolding loopOf graphOf
-  tells-form = record { all-nodes = refl; all-edges = refl; is-tail = λ e l. refl; is-delay = λ e l. refl }
-
-  pub follows-form : (v : ℕ) → v < f .nodes → Follows (loopOf f) v (nodeOf f v .operation) (getD first v 0) next
-  unfolding loopOf graphOf
-  follows-form v l = record { is-operation = refl; is-first = links .first-with v (omega (arith, w .nodes)); is-next = λ e m. links .next-with e m }
-
-  pub first-few : (v : ℕ) → v < f .nodes → getD first v 0 ≤ f .edges
-  first-few v l = begins-in _ _ _ _ links v (omega (arith, w .nodes))
 
 -- ---- a visit that can issue
 

@@ -118,6 +118,5 @@ pub fn search(record: &[u8], count: u16, size: u16, out: &mut [u8]) -> Scheduled
             cycle: Cycle::none(),
         };
     }
-    let form = read.form;
-    rotation::write_plan(search_plan(form, count, size), out)
+    rotation::write_plan(search_plan(read.form, count, size), out)
 }

@@ -3,11 +3,11 @@
 use mathlib.Core.Path.{_≡_, refl, sym, ap, _∙_}
 use mathlib.Core.Bool.{true, false}
 use mathlib.Core.Logic.{_≢_}
-use mathlib.Core.List.{List, [], _∷_, _++_}
+use mathlib.Core.List.{List, [], _∷_}
 use Prim.Native.Nat.{ℕ, suc, _+_, _-_, _*_, _/_, _%_, _≤_, _<_, min}
 use native.Mathlib.Numerals.{add-one}
 use native.Mathlib.Omega.{arith}
-use lib.Dec.{eqb, ltb}
+use lib.Dec.{eqb}
 use lib.ListN.{length, getD, drop, drop-of-length-le, List·getD-eq-default}
 use lib.Seq.{drop-cons}
 use borrow.Author.Needs.{needs}
@@ -15,10 +15,9 @@ use borrow.Author.Tests.{le-ltb, lt-ltb, eq-eqb, ne-eqb}
 use Rattle.lists.specs.Pick.{pick, pick-true, pick-false, pick-ind}
 use Rattle.writer.specs.Layout.{rows}
 use Rattle.writer.specs.Laid.{Laid}
-use Rattle.writer.proofs.Laws.{nothing, both}
-use Rattle.words.specs.declared.Number.{Number}
+use Rattle.writer.proofs.Laws.{nothing}
 use Rattle.words.specs.declared.Number.the-variants.{Is, Not}
-use Rattle.words.specs.Numbers.{placeText, numeral, longerBy, numberFrom, numberIn}
+use Rattle.words.specs.Numbers.{placeText, longerBy, numberFrom, numberIn}
 use Rattle.words.specs.Commands.{sameWord}
 use Rattle.words.specs.Refusals.{edgeText, edgesText, shapeTexts, ruleTexts, reasonText}
 

@@ -6,7 +6,8 @@ use lib.Dec.{ltb}
 use lib.ListN.{getD}
 use Rattle.lists.specs.Pick.{pick}
 use Rattle.writer.specs.Layout.{rows}
-use Rattle.listing.specs.Text.{newline, refusedWord}
+use Rattle.text.specs.Decimal.{newline}
+use Rattle.listing.specs.Text.{refusedWord}
 use Rattle.words.specs.Numbers.{numeral}
 use Rattle.words.specs.Words.{
   shortWord,

@@ -8,8 +8,8 @@ ghost use Rattle.words.specs.Numbers.{placeText, highText, lowText, nume
 ghost use Rattle.words.specs.Commands.{sameWord, rewritingOf, commandOf};
 ghost use Rattle.words.specs.Words.{roomWord, roomEnd};
 ghost use Rattle.words.specs.Refusals.{offsetText, oneText, twoText, threeText, edgesText, cycleText, shapeTexts, ruleTexts, reasonText, refusalLine};
-use listing::put_byte;
-use listing::put_word;
+use text::put_byte;
+use text::put_word;
 
 // What a word names; `Unknown` where it names no command.
 pub enum Command {

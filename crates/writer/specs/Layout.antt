@@ -36,8 +36,11 @@ unfoldable pub startBytes : ℕ → ℕ → List ℕ
 startBytes s r = bytesOf 2 s ++ (r ∷ [])
 
 -- the mark "RSK", version 1, C, N, E and L
-unfoldable pub headerBytes : Form → List ℕ
-headerBytes f = 82 ∷ 83 ∷ 75 ∷ 1 ∷ 0 ∷ f .classes ∷ f .nodes ∷ (bytesOf 2 (f .edges) ++ bytesOf 2 (f .length))
+unfoldable pub countBytes : ℕ → ℕ → ℕ → ℕ → List ℕ
+countBytes classes nodes edges last = 82 ∷ 83 ∷ 75 ∷ 1 ∷ 0 ∷ classes ∷ nodes ∷ (bytesOf 2 edges ++ bytesOf 2 last)
+
+abbrev pub headerBytes : Form → List ℕ
+headerBytes f = countBytes (f .classes) (f .nodes) (f .edges) (f .length)
 
 -- rows 0 to n - 1, one after the other
 unfoldable pub rows : (ℕ → List ℕ) → ℕ → List ℕ

@@ -8,7 +8,7 @@ ghost use Rattle.answer.specs.Refused.{fine};
 ghost use Rattle.form.specs.declared.Form.{Form};
 ghost use Rattle.form.specs.Places.{noClass, noNode, noStep, scheduledOf};
 ghost use Rattle.reader.specs.Reading.{readForm};
-ghost use Rattle.writer.specs.Layout.{codeOf, constantOf, classBytes, nodeBytes, edgeBytes, startBytes, headerBytes, rows, layout};
+ghost use Rattle.writer.specs.Layout.{codeOf, constantOf, classBytes, nodeBytes, edgeBytes, startBytes, countBytes, rows, layout};
 ghost use Rattle.writer.specs.Laid.{Laid};
 ghost use Rattle.writer.specs.Writing.{written, bufferAfter};
 use answer::Refusal;
@@ -47,18 +47,16 @@ fn constant_of(operation: Operation) -> u32
 }
 
 // Mark, version and the counts.
-fn put_header(out: &mut [u8; 1367], form: Form) -> usize
-    ensures { λ r. ⌜ (r ≡ 11) × Laid (now (out .entry)) 0 (headerBytes form) (now (out .exit)) r ⌝ }
+fn put_header(out: &mut [u8; 1367], classes: u8, nodes: u8, edges: u16, length: u16) -> usize
+    ensures { λ r. ⌜ (r ≡ 11) × Laid (now (out .entry)) 0 (countBytes classes nodes edges length) (now (out .exit)) r ⌝ }
 {
-    let edges = form.edges;
-    let length = form.length;
     out[0] = b'R';
     out[1] = b'S';
     out[2] = b'K';
     out[3] = 1;
     out[4] = 0;
-    out[5] = form.classes;
-    out[6] = form.nodes;
+    out[5] = classes;
+    out[6] = nodes;
     out[7] = (edges % 256) as u8;
     out[8] = (edges / 256 % 256) as u8;
     out[9] = (length % 256) as u8;
@@ -218,15 +216,19 @@ fn scheduled_of(length: u16, nodes: u8) -> u16
 fn lay(out: &mut [u8; 1367], form: Form) -> usize
     ensures { λ r. ⌜ (r ≤ 1367) × Laid (now (out .entry)) 0 (layout form) (now (out .exit)) r ⌝ }
 {
+    // tables of its own: to lend the form's would copy all of it first
     let class = form.class;
     let node = form.node;
+    let from = form.from;
+    let to = form.to;
+    let delays = form.delays;
     let start = form.start;
     let retiming = form.retiming;
-    let classes_at = put_header(out, form);
+    let classes_at = put_header(out, form.classes, form.nodes, form.edges, form.length);
     let nodes_at = put_classes(out, classes_at, class, rows_of(form.classes as u16, 4));
     let edges_at = put_nodes(out, nodes_at, node, rows_of(form.nodes as u16, 64));
     let edges = rows_of(form.edges, 256);
-    let starts_at = put_edges(out, edges_at, &form.from, &form.to, &form.delays, edges);
+    let starts_at = put_edges(out, edges_at, &from, &to, &delays, edges);
     let scheduled = scheduled_of(form.length, form.nodes);
     put_starts(out, starts_at, start, retiming, rows_of(scheduled, 64))
 }

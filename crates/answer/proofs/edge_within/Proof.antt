@@ -1,9 +1,9 @@
+-- `answer::edge_within` meets its contract.
+-- Assumes nothing.
 use Rattle.lists.specs.Pick.{pick}
 use borrow.Author.Tests.{lt-ltb, le-ltb}
 use Rattle.answer.proofs.edge_within.Statement.{statement}
 use Rattle.answer.proofs.edge_within.Tie as tie
-use Rattle.answer.proofs.edge_within.Reads as reads
-use Rattle.answer.proofs.edge_within.Lts as lts
 
 returns : tie.Need-returns
 unfolding pick

@@ -1,3 +1,5 @@
+-- `answer::fill` meets its contract.
+-- Assumes nothing.
 use mathlib.Core.Path.{refl}
 use lib.ListN.{replicate}
 use Rattle.answer.specs.Outcome.{outcomeList}
@@ -5,11 +7,6 @@ use Rattle.answer.proofs.Laws.{answer-whole}
 use borrow.Author.Needs.{needs}
 use Rattle.answer.proofs.fill.Statement.{statement}
 use Rattle.answer.proofs.fill.Tie as tie
-use Rattle.answer.proofs.fill.Reads as reads
-use Rattle.answer.proofs.fill.Lts as lts
-use Rattle.answer.proofs.Refusal.number.Reads as number-reads
-use Rattle.answer.proofs.fill_cycle.Reads as fill-cycle-reads
-use Rattle.answer.proofs.told_of.Reads as told-of-reads
 
 number-requires : tie.Need-number-requires
 number-requires c κs = search needs

@@ -1,3 +1,5 @@
+-- `answer::fill_cycle` meets its contract.
+-- Assumes nothing.
 use mathlib.Core.Path.{_≡_, refl}
 use mathlib.Core.List.{map}
 use Prim.Native.Nat.{_≤_, _-_}
@@ -9,9 +11,6 @@ use Rattle.answer.specs.Outcome.{cycleEdge, cycleList}
 use Rattle.answer.proofs.Laws.{place-more}
 use Rattle.answer.proofs.fill_cycle.Statement.{statement}
 use Rattle.answer.proofs.fill_cycle.Tie as tie
-use Rattle.answer.proofs.fill_cycle.Reads as reads
-use Rattle.answer.proofs.fill_cycle.Lts as lts
-use Rattle.answer.proofs.edge_within.Reads as edge-within-reads
 
 abbrev Inv-loop : tie.InvT-loop
 Inv-loop answer₀ cycle i₀ answer i = (i ≤ 64) × (answer ≡ sets answer₀ 5 (map (cycleEdge cycle) (span 0 i)))

@@ -1,12 +1,10 @@
+-- `answer::told_of` meets its contract.
+-- Assumes nothing.
 use Rattle.lists.specs.Pick.{pick}
 use Rattle.answer.specs.Outcome.{toldOf}
 use borrow.Author.Needs.{needs}
 use Rattle.answer.proofs.told_of.Statement.{statement}
 use Rattle.answer.proofs.told_of.Tie as tie
-use Rattle.answer.proofs.told_of.Reads as reads
-use Rattle.answer.proofs.told_of.Lts as lts
-use Rattle.answer.proofs.Refusal.details.Reads as details-reads
-use Rattle.answer.proofs.Refusal.is_fine.Reads as is-fine-reads
 
 details-requires : tie.Need-details-requires
 details-requires c κs = search needs

@@ -1,15 +1,10 @@
 -- `cases::checksum` ends and keeps within the words.
 -- Assumes nothing.
-use Prim.Native.Nat.{ℕ, _≤_, _-_}
-use mathlib.Core.Path.{_≡_}
-use native.Mathlib.Omega.{arith}
+use Prim.Native.Nat.{_≤_, _-_}
 use borrow.Author.Needs.{needs}
 use lib.ListN.{length}
 use Rattle.cases.proofs.checksum.Statement.{statement}
 use Rattle.cases.proofs.checksum.Tie as tie
-use Rattle.cases.proofs.checksum.Reads as reads
-use Rattle.cases.proofs.checksum.Lts as lts
-use Rattle.cases.proofs.mixed.Reads as mixed-reads
 
 abbrev Inv-loop : tie.InvT-loop
 Inv-loop words sum₀ i₀ sum i = i ≤ length words

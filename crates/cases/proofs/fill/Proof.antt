@@ -1,16 +1,11 @@
 -- `cases::fill` ends, keeps within the table and its length.
 -- Assumes nothing.
-use Prim.Native.Nat.{ℕ, _≤_, _-_}
+use Prim.Native.Nat.{_≤_, _-_}
 use mathlib.Core.Path.{_≡_}
-use native.Mathlib.Omega.{arith}
 use borrow.Author.Needs.{needs}
 use lib.ListN.{length}
 use Rattle.cases.proofs.fill.Statement.{statement}
 use Rattle.cases.proofs.fill.Tie as tie
-use Rattle.cases.proofs.fill.Reads as reads
-use Rattle.cases.proofs.fill.Lts as lts
-use Rattle.cases.proofs.beginning.Reads as beginning-reads
-use Rattle.cases.proofs.more.Reads as more-reads
 
 abbrev Inv-loop : tie.InvT-loop
 Inv-loop seed starts₀ word₀ i₀ starts word i = (i ≤ length starts₀) × (length starts ≡ length starts₀)

@@ -1,15 +1,10 @@
 -- `cases::lend_bytes` keeps within the buffer that it lends.
 -- Assumes nothing.
-use mathlib.Core.Path.{_≡_, sym}
+use mathlib.Core.Path.{sym}
 use lib.Seq.{length-take-le}
 use borrow.Author.Needs.{needs}
 use Rattle.cases.proofs.lend_bytes.Statement.{statement}
 use Rattle.cases.proofs.lend_bytes.Tie as tie
-use Rattle.cases.proofs.lend_bytes.Reads as reads
-use Rattle.cases.proofs.lend_bytes.Lts as lts
-use Rattle.cases.proofs.marked.Reads as marked-reads
-use Rattle.cases.proofs.tell.Reads as tell-reads
-use Rattle.cases.proofs.two.Reads as two-reads
 
 -- src/main.rt:113:21
 element-copy-out-two : tie.Need-element-copy-out-two

@@ -1,19 +1,10 @@
 -- `cases::lend_values` keeps within the words that it lends.
 -- Assumes nothing.
-use mathlib.Core.Path.{_≡_, sym}
-use Prim.Native.Nat.{ℕ, _≤_}
-use lib.ListN.{length, take, drop}
-use lib.Seq.{length-take-le, length-front}
-use native.Mathlib.Omega.{arith}
+use mathlib.Core.Path.{sym}
+use lib.Seq.{length-take-le}
 use borrow.Author.Needs.{needs}
 use Rattle.cases.proofs.lend_values.Statement.{statement}
 use Rattle.cases.proofs.lend_values.Tie as tie
-use Rattle.cases.proofs.lend_values.Reads as reads
-use Rattle.cases.proofs.lend_values.Lts as lts
-use Rattle.cases.proofs.marked_words.Reads as marked-words-reads
-use Rattle.cases.proofs.tell_plain.Reads as tell-plain-reads
-use Rattle.cases.proofs.tell_run.Reads as tell-run-reads
-use Rattle.cases.proofs.two.Reads as two-reads
 
 -- src/main.rt:204:17
 element-copy-out-two : tie.Need-element-copy-out-two

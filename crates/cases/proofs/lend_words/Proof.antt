@@ -1,19 +1,11 @@
 -- `cases::lend_words` keeps within the start table.
 -- Assumes nothing.
-use mathlib.Core.Path.{_≡_, sym}
-use Prim.Native.Nat.{ℕ, _≤_}
-use lib.ListN.{length, take, drop}
+use mathlib.Core.Path.{sym}
 use lib.Seq.{length-take-le, length-front}
 use native.Mathlib.Omega.{arith}
 use borrow.Author.Needs.{needs}
 use Rattle.cases.proofs.lend_words.Statement.{statement}
 use Rattle.cases.proofs.lend_words.Tie as tie
-use Rattle.cases.proofs.lend_words.Reads as reads
-use Rattle.cases.proofs.lend_words.Lts as lts
-use Rattle.cases.proofs.fill.Reads as fill-reads
-use Rattle.cases.proofs.lend_values.Reads as lend-values-reads
-use Rattle.cases.proofs.start_table.Reads as start-table-reads
-use Rattle.cases.proofs.two.Reads as two-reads
 
 -- src/main.rt:218:20
 element-copy-out-two : tie.Need-element-copy-out-two

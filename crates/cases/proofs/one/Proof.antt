@@ -1,19 +1,11 @@
 -- `cases::one` keeps within the record's buffer.
 -- Assumes nothing.
-use mathlib.Core.Path.{_≡_, sym}
-use Prim.Native.Nat.{ℕ, _≤_}
-use lib.ListN.{length, take, drop}
+use mathlib.Core.Path.{sym}
 use lib.Seq.{length-take-le, length-front}
 use native.Mathlib.Omega.{arith}
 use borrow.Author.Needs.{needs}
 use Rattle.cases.proofs.one.Statement.{statement}
 use Rattle.cases.proofs.one.Tie as tie
-use Rattle.cases.proofs.one.Reads as reads
-use Rattle.cases.proofs.one.Lts as lts
-use Rattle.cases.proofs.empty.Reads as empty-reads
-use Rattle.cases.proofs.lend.Reads as lend-reads
-use Rattle.cases.proofs.two.Reads as two-reads
-use Rattle.io.proofs.read_full.Reads as read-full-reads
 
 -- src/main.rt:240:32
 slice-aggregate-read-full : tie.Need-slice-aggregate-read-full

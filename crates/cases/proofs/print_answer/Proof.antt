@@ -1,13 +1,9 @@
 -- `cases::print_answer` ends and keeps within the answer.
 -- Assumes nothing.
-use Prim.Native.Nat.{ℕ, _≤_, _-_}
-use native.Mathlib.Omega.{arith}
+use Prim.Native.Nat.{_≤_, _-_}
 use borrow.Author.Needs.{needs}
 use Rattle.cases.proofs.print_answer.Statement.{statement}
 use Rattle.cases.proofs.print_answer.Tie as tie
-use Rattle.cases.proofs.print_answer.Reads as reads
-use Rattle.cases.proofs.print_answer.Lts as lts
-use Rattle.cases.proofs.print_number.Reads as print-number-reads
 
 abbrev Inv-loop : tie.InvT-loop
 Inv-loop answer count i₀ i = i ≤ 69

@@ -1,14 +1,10 @@
 -- `cases::print_bytes` ends and keeps within the bytes.
 -- Assumes nothing.
-use Prim.Native.Nat.{ℕ, _≤_, _-_}
-use native.Mathlib.Omega.{arith}
+use Prim.Native.Nat.{_≤_, _-_}
 use borrow.Author.Needs.{needs}
 use lib.ListN.{length}
 use Rattle.cases.proofs.print_bytes.Statement.{statement}
 use Rattle.cases.proofs.print_bytes.Tie as tie
-use Rattle.cases.proofs.print_bytes.Reads as reads
-use Rattle.cases.proofs.print_bytes.Lts as lts
-use Rattle.cases.proofs.print_byte.Reads as print-byte-reads
 
 abbrev Inv-loop : tie.InvT-loop
 Inv-loop bytes i₀ i = i ≤ length bytes

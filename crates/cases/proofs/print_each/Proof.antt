@@ -1,15 +1,10 @@
 -- `cases::print_each` ends and keeps within the words.
 -- Assumes nothing.
-use Prim.Native.Nat.{ℕ, _≤_, _-_}
-use mathlib.Core.Path.{_≡_}
-use native.Mathlib.Omega.{arith}
+use Prim.Native.Nat.{_≤_, _-_}
 use borrow.Author.Needs.{needs}
 use lib.ListN.{length}
 use Rattle.cases.proofs.print_each.Statement.{statement}
 use Rattle.cases.proofs.print_each.Tie as tie
-use Rattle.cases.proofs.print_each.Reads as reads
-use Rattle.cases.proofs.print_each.Lts as lts
-use Rattle.cases.proofs.print_number.Reads as print-number-reads
 
 abbrev Inv-loop : tie.InvT-loop
 Inv-loop words i₀ i = i ≤ length words

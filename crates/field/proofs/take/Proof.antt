@@ -1,15 +1,11 @@
-use mathlib.Core.Path.{sym, ap, _∙_}
+-- `field::take` meets its contract.
+-- Assumes nothing.
+use mathlib.Core.Path.{sym, _∙_}
 use borrow.Author.Tests.{not-true, not-false}
 use Rattle.field.specs.Laws.{took-refused, took-short, took-low, took-high, took-good}
 use borrow.Author.Needs.{needs}
 use Rattle.field.proofs.take.Statement.{statement}
 use Rattle.field.proofs.take.Tie as tie
-use Rattle.field.proofs.take.Reads as reads
-use Rattle.field.proofs.take.Lts as lts
-use Rattle.answer.proofs.Refusal.is_fine.Reads as is-fine-reads
-use Rattle.field.proofs.number_at.Reads as number-at-reads
-use Rattle.field.proofs.stopped.Reads as stopped-reads
-use Rattle.field.proofs.wrong_at.Reads as wrong-at-reads
 
 is-fine-requires : tie.Need-is-fine-requires
 is-fine-requires c κs = search needs

@@ -1,10 +1,10 @@
+-- `field::wrong_at` meets its contract.
+-- Assumes nothing.
 use mathlib.Core.Path.{sym, ap}
 use Rattle.field.specs.Taking.{wrongAt}
 use borrow.Author.Needs.{needs}
 use Rattle.field.proofs.wrong_at.Statement.{statement}
 use Rattle.field.proofs.wrong_at.Tie as tie
-use Rattle.field.proofs.wrong_at.Reads as reads
-use Rattle.field.proofs.wrong_at.Lts as lts
 
 enum-told : tie.Need-enum-told
 enum-told c = search needs

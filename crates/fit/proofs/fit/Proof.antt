@@ -1,26 +1,14 @@
--- `fit::fit` meets its contract: each refusal in turn, else what is written with the retiming that fits.
+-- `fit::fit` meets its contract: the reader's refusal, the plan's, else what is written with the retiming that fits.
 -- Assumes nothing.
-use mathlib.Core.Path.{refl, sym, subst, _∙_}
+use mathlib.Core.Path.{sym, subst, _∙_}
 use native.Mathlib.Omega.{arith}
 use borrow.Author.Needs.{needs}
 use borrow.Author.Tests.{not-true, not-false}
-use Rattle.answer.specs.Refused.{fine}
-use Rattle.knots.specs.Found.{ends-form, told-form}
+use Rattle.tables.specs.Lent.{lent-form}
 use Rattle.fit.specs.declared.Fitted.{Fitted}
 use Rattle.fit.specs.Fitting.{RecordFitted}
 use Rattle.fit.specs.Planned.{fittedAnswer}
-use Rattle.fit.proofs.Starts.{described-form}
-use Rattle.fit.proofs.Plans.{
-  plan-bare,
-  plan-knot,
-  plan-unfit,
-  plan-fits,
-  fit-unread,
-  form-good,
-  fit-refused,
-  fit-taken,
-  fit-answered,
-}
+use Rattle.fit.proofs.Plans.{fit-unread, form-good, fit-refused, fit-taken, fit-answered}
 use Rattle.fit.proofs.fit.Statement.{statement}
 use Rattle.fit.proofs.fit.Tie as tie
 
@@ -43,117 +31,63 @@ returns c =
     subst (λ (x : Fitted). RecordFitted (a .«record» .now) (a .out .now) (a .out .now) x) (sym (c .unfitted .ensures))
     (fit-unread _ _ _ (r .read .ensures) (sym (c .before .before .before .is-fine .ensures) ∙ not-true _ (c .before .before .if1 .taken)) _ (c .before .none .ensures))
 
-none-requires-2 : tie.Need-none-requires-2
-none-requires-2 c κs = search needs
+times-of-requires : tie.Need-times-of-requires
+times-of-requires c κs =
+    let r = c .before .before .before in
+    let a = r .before .before .before .args in
+    form-good (a .«record» .now) (a .out .now) _ (r .read .ensures) (λ i. omega (arith, r .before .before .shared-slice-known .given i)) (sym (c .before .before .is-fine .ensures) ∙ not-false _ (c .before .if1 .left))
+
+plan-tables-requires : tie.Need-plan-tables-requires
+plan-tables-requires c κs =
+    let r = c .before .before .before .before .before .before .before .before in
+    let a = r .before .before .before .args in (
+      r .read .result .form,
+      lent-form _ _
+          (form-good (a .«record» .now) (a .out .now) _ (r .read .ensures) (λ i. omega (arith, r .before .before .shared-slice-known .given i)) (sym (c .before .before .before .before .before .before .before .is-fine .ensures) ∙ not-false _ (c .before .before .before .before .before .before .if1 .left)))
+          (c .before .before .before .before .times-of .ensures),
+    )
+
+is-fine-requires-2 : tie.Need-is-fine-requires-2
+is-fine-requires-2 c κs = search needs
 
 unfitted-requires-2 : tie.Need-unfitted-requires-2
 unfitted-requires-2 c κs = search needs
 
 returns-2 : tie.Need-returns-2
-unfolding fine
 returns-2 c =
-    let r = c .before .before .before .before .before in
+    let r = c .before .before .before .before .before .before .before .before .before .before .before .before .before in
     let a = r .before .before .before .args in
-    let good = sym (c .before .before .before .before .is-fine .ensures) ∙ not-false _ (c .before .before .before .if1 .left) in
+    let good = sym (c .before .before .before .before .before .before .before .before .before .before .before .before .is-fine .ensures) ∙ not-false _ (c .before .before .before .before .before .before .before .before .before .before .before .if1 .left) in
+    let w = form-good (a .«record» .now) (a .out .now) _ (r .read .ensures) (λ i. omega (arith, r .before .before .shared-slice-known .given i)) good in
     subst (λ (x : Fitted). RecordFitted (a .«record» .now) (a .out .now) (a .out .now) x) (sym (c .unfitted2 .ensures))
-    (fit-refused (a .«record» .now) (a .out .now) _ (r .read .ensures) (λ i. omega (arith, r .before .before .shared-slice-known .given i)) good _ (plan-bare _ (c .before .before .if2 .taken) _ (c .before .none2 .ensures)) refl)
-
-knot-of-requires : tie.Need-knot-of-requires
-knot-of-requires c κs =
-    let r = c .before .before .before .before .before .before .before in
-    let a = r .before .before .before .args in
-    let good = sym (c .before .before .before .before .before .before .is-fine .ensures) ∙ not-false _ (c .before .before .before .before .before .if1 .left) in
-    ends-form _ (form-good (a .«record» .now) (a .out .now) _ (r .read .ensures) (λ i. omega (arith, r .before .before .shared-slice-known .given i)) good)
-
-unfitted-requires-3 : tie.Need-unfitted-requires-3
-unfitted-requires-3 c κs = search needs
-
-returns-3 : tie.Need-returns-3
-unfolding fine
-returns-3 c =
-    let r = c .before .before .before .before .before .before .before .before .before .before .before in
-    let a = r .before .before .before .args in
-    let good = sym (c .before .before .before .before .before .before .before .before .before .before .is-fine .ensures) ∙ not-false _ (c .before .before .before .before .before .before .before .before .before .if1 .left) in
-    subst (λ (x : Fitted). RecordFitted (a .«record» .now) (a .out .now) (a .out .now) x) (sym (c .unfitted3 .ensures))
-    (fit-refused (a .«record» .now) (a .out .now) _ (r .read .ensures) (λ i. omega (arith, r .before .before .shared-slice-known .given i)) good _ (plan-knot _ (c .before .before .before .before .before .before .before .before .if2 .left) _ (c .before .before .before .knot-of .ensures _ (told-form _)) (c .before .if3 .taken)) refl)
-
-limits-of-requires : tie.Need-limits-of-requires
-limits-of-requires c κs =
-    let r = c .before .before .before .before .before .before .before .before .before .before .before in
-    let a = r .before .before .before .args in
-    let good = sym (c .before .before .before .before .before .before .before .before .before .before .is-fine .ensures) ∙ not-false _ (c .before .before .before .before .before .before .before .before .before .if1 .left) in
-    form-good (a .«record» .now) (a .out .now) _ (r .read .ensures) (λ i. omega (arith, r .before .before .shared-slice-known .given i)) good
-
-fit-limits-requires : tie.Need-fit-limits-requires
-fit-limits-requires c κs =
-    let r = c .before .before .before .before .before .before .before .before .before .before .before .before .before .before .before in
-    let a = r .before .before .before .args in
-    let good = sym (c .before .before .before .before .before .before .before .before .before .before .before .before .before .before .is-fine .ensures) ∙ not-false _ (c .before .before .before .before .before .before .before .before .before .before .before .before .before .if1 .left) in
-    (r .read .result .form, described-form _ (form-good (a .«record» .now) (a .out .now) _ (r .read .ensures) (λ i. omega (arith, r .before .before .shared-slice-known .given i)) good) _ _ (c .before .before .before .limits-of .ensures))
-
-unfitted-requires-4 : tie.Need-unfitted-requires-4
-unfitted-requires-4 c κs = search needs
-
-returns-4 : tie.Need-returns-4
-unfolding fine
-returns-4 c =
-    let r = c .before .before .before .before .before .before .before .before .before .before .before .before .before .before .before .before .before .before .before .before in
-    let a = r .before .before .before .args in
-    let good = sym (c .before .before .before .before .before .before .before .before .before .before .before .before .before .before .before .before .before .before .before .is-fine .ensures) ∙ not-false _ (c .before .before .before .before .before .before .before .before .before .before .before .before .before .before .before .before .before .before .if1 .left) in
-    subst (λ (x : Fitted). RecordFitted (a .«record» .now) (a .out .now) (a .out .now) x) (sym (c .unfitted4 .ensures))
-    (fit-refused (a .«record» .now) (a .out .now) _ (r .read .ensures) (λ i. omega (arith, r .before .before .shared-slice-known .given i)) good _ (plan-unfit _ (c .before .before .before .before .before .before .before .before .before .before .before .before .before .before .before .before .before .if2 .left) _ (c .before .before .before .before .before .before .before .before .before .before .before .before .knot-of .ensures _ (told-form _)) (c .before .before .before .before .before .before .before .before .before .before .if3 .left) _ (c .before .before .before .before .fit-limits .ensures _ (described-form _ (form-good (a .«record» .now) (a .out .now) _ (r .read .ensures) (λ i. omega (arith, r .before .before .shared-slice-known .given i)) good) _ _ (c .before .before .before .before .before .before .before .before .limits-of .ensures))) (not-true _ (c .before .if4 .taken))) refl)
-
-crowded-requires : tie.Need-crowded-requires
-crowded-requires c κs =
-    let r = c .before .before .before .before .before .before .before .before .before .before .before .before .before .before .before .before .before .before .before .before in
-    let a = r .before .before .before .args in
-    let good = sym (c .before .before .before .before .before .before .before .before .before .before .before .before .before .before .before .before .before .before .before .is-fine .ensures) ∙ not-false _ (c .before .before .before .before .before .before .before .before .before .before .before .before .before .before .before .before .before .before .if1 .left) in
-    (form-good (a .«record» .now) (a .out .now) _ (r .read .ensures) (λ i. omega (arith, r .before .before .shared-slice-known .given i)) good, c .before .before .before .before .before .before .before .before .before .before .before .before .before .before .before .before .before .if2 .left)
-
-is-fine-requires-2 : tie.Need-is-fine-requires-2
-is-fine-requires-2 c κs = search needs
-
-unfitted-requires-5 : tie.Need-unfitted-requires-5
-unfitted-requires-5 c κs = search needs
-
-returns-5 : tie.Need-returns-5
-returns-5 c =
-    let r = c .before .before .before .before .before .before .before .before .before .before .before .before .before .before .before .before .before .before .before .before .before .before .before .before in
-    let a = r .before .before .before .args in
-    let good = sym (c .before .before .before .before .before .before .before .before .before .before .before .before .before .before .before .before .before .before .before .before .before .before .before .is-fine .ensures) ∙ not-false _ (c .before .before .before .before .before .before .before .before .before .before .before .before .before .before .before .before .before .before .before .before .before .before .if1 .left) in
-    subst (λ (x : Fitted). RecordFitted (a .«record» .now) (a .out .now) (a .out .now) x) (sym (c .unfitted5 .ensures))
     (fit-refused (a .«record» .now) (a .out .now) _ (r .read .ensures) (λ i. omega (arith, r .before .before .shared-slice-known .given i)) good _
-    (plan-fits _ (c .before .before .before .before .before .before .before .before .before .before .before .before .before .before .before .before .before .before .before .before .before .if2 .left) _ (c .before .before .before .before .before .before .before .before .before .before .before .before .before .before .before .before .knot-of .ensures _ (told-form _)) (c .before .before .before .before .before .before .before .before .before .before .before .before .before .before .if3 .left) _ (c .before .before .before .before .before .before .before .before .fit-limits .ensures _ (described-form _ (form-good (a .«record» .now) (a .out .now) _ (r .read .ensures) (λ i. omega (arith, r .before .before .shared-slice-known .given i)) good) _ _ (c .before .before .before .before .before .before .before .before .before .before .before .before .limits-of .ensures))) (not-false _ (c .before .before .before .before .before .if4 .left)) _ (c .before .before .before .crowded .ensures) _ refl)
-    (sym (c .before .before .is-fine2 .ensures) ∙ not-true _ (c .before .if5 .taken)))
+    (c .before .before .before .before .plan-tables .ensures _ (lent-form _ _ w (c .before .before .before .before .before .before .before .before .before .times-of .ensures)))
+    (sym (c .before .before .is-fine2 .ensures) ∙ not-true _ (c .before .if2 .taken)))
 
 write-fitted-requires : tie.Need-write-fitted-requires
 write-fitted-requires c κs =
-    let u = c .before .before .before .before in
-    let l = u .before .before .before .before .before in
-    let k = l .before .before .before .before .before .before .before .before in
-    let i = k .before .before .before .before .before .before in
-    let r = i .before .before in
+    let r = c .before .before .before .before .before .before .before .before .before .before .before .before .before .before in
     let a = r .before .before .before .args in
-    let good = sym (i .before .is-fine .ensures) ∙ not-false _ (i .if1 .left) in
+    let good = sym (c .before .before .before .before .before .before .before .before .before .before .before .before .before .is-fine .ensures) ∙ not-false _ (c .before .before .before .before .before .before .before .before .before .before .before .before .if1 .left) in
+    let w = form-good (a .«record» .now) (a .out .now) _ (r .read .ensures) (λ i. omega (arith, r .before .before .shared-slice-known .given i)) good in
     fit-taken (a .«record» .now) (a .out .now) _ (r .read .ensures) (λ i. omega (arith, r .before .before .shared-slice-known .given i)) good _
-    (plan-fits _ (k .before .before .before .before .before .if2 .left) _ (k .knot-of .ensures _ (told-form _)) (l .before .before .before .before .before .before .if3 .left) _
-    (l .fit-limits .ensures _ (described-form _ (form-good (a .«record» .now) (a .out .now) _ (r .read .ensures) (λ i. omega (arith, r .before .before .shared-slice-known .given i)) good) _ _ (l .before .before .before .before .limits-of .ensures)))
-    (not-false _ (u .before .before .if4 .left)) _ (u .crowded .ensures) _ refl)
-    (sym (c .before .before .before .is-fine2 .ensures) ∙ not-false _ (c .before .before .if5 .left))
+    (c .before .before .before .before .before .plan-tables .ensures _ (lent-form _ _ w (c .before .before .before .before .before .before .before .before .before .before .times-of .ensures)))
+    (sym (c .before .before .before .is-fine2 .ensures) ∙ not-false _ (c .before .before .if2 .left))
 
 same-length : tie.Need-same-length
 same-length c = search needs
 
-returns-6 : tie.Need-returns-6
+returns-3 : tie.Need-returns-3
 unfolding fittedAnswer
-returns-6 c =
-    let r = c .before .before .before .before .before .before .before .before .before .before .before .before .before .before .before .before .before .before .before .before .before .before .before .before .before .before .before .before in
+returns-3 c =
+    let r = c .before .before .before .before .before .before .before .before .before .before .before .before .before .before .before .before .before in
     let a = r .before .before .before .args in
-    let good = sym (c .before .before .before .before .before .before .before .before .before .before .before .before .before .before .before .before .before .before .before .before .before .before .before .before .before .before .before .is-fine .ensures) ∙ not-false _ (c .before .before .before .before .before .before .before .before .before .before .before .before .before .before .before .before .before .before .before .before .before .before .before .before .before .before .if1 .left) in
-    let w = c .before .before .write-fitted .ensures in
+    let good = sym (c .before .before .before .before .before .before .before .before .before .before .before .before .before .before .before .before .is-fine .ensures) ∙ not-false _ (c .before .before .before .before .before .before .before .before .before .before .before .before .before .before .before .if1 .left) in
+    let w = form-good (a .«record» .now) (a .out .now) _ (r .read .ensures) (λ i. omega (arith, r .before .before .shared-slice-known .given i)) good in
+    let written = c .before .before .write-fitted .ensures in
     fit-answered (a .«record» .now) (a .out .now) _ (r .read .ensures) (λ i. omega (arith, r .before .before .shared-slice-known .given i)) good _
-    (plan-fits _ (c .before .before .before .before .before .before .before .before .before .before .before .before .before .before .before .before .before .before .before .before .before .before .before .before .before .if2 .left) _ (c .before .before .before .before .before .before .before .before .before .before .before .before .before .before .before .before .before .before .before .before .knot-of .ensures _ (told-form _)) (c .before .before .before .before .before .before .before .before .before .before .before .before .before .before .before .before .before .before .if3 .left) _ (c .before .before .before .before .before .before .before .before .before .before .before .before .fit-limits .ensures _ (described-form _ (form-good (a .«record» .now) (a .out .now) _ (r .read .ensures) (λ i. omega (arith, r .before .before .shared-slice-known .given i)) good) _ _ (c .before .before .before .before .before .before .before .before .before .before .before .before .before .before .before .before .limits-of .ensures))) (not-false _ (c .before .before .before .before .before .before .before .before .before .if4 .left)) _ (c .before .before .before .before .before .before .before .crowded .ensures) _ refl)
-    (sym (c .before .before .before .before .before .before .is-fine2 .ensures) ∙ not-false _ (c .before .before .before .before .before .if5 .left)) _ _ (w .0) (w .1)
+    (c .before .before .before .before .before .before .before .before .plan-tables .ensures _ (lent-form _ _ w (c .before .before .before .before .before .before .before .before .before .before .before .before .before .times-of .ensures)))
+    (sym (c .before .before .before .before .before .before .is-fine2 .ensures) ∙ not-false _ (c .before .before .before .before .before .if2 .left)) _ _ (written .0) (written .1)
 
 pub fit-spec : {M : Type 1} → statement M
 fit-spec =
@@ -164,20 +98,11 @@ fit-spec =
     none-requires
     unfitted-requires
     returns
-    none-requires-2
+    times-of-requires
+    plan-tables-requires
+    is-fine-requires-2
     unfitted-requires-2
     returns-2
-    knot-of-requires
-    unfitted-requires-3
-    returns-3
-    limits-of-requires
-    fit-limits-requires
-    unfitted-requires-4
-    returns-4
-    crowded-requires
-    is-fine-requires-2
-    unfitted-requires-5
-    returns-5
     write-fitted-requires
     same-length
-    returns-6)
+    returns-3)

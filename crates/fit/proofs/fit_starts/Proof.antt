@@ -1,22 +1,40 @@
 -- `fit::fit_starts` meets its contract: the filled tables are the limits of the starts.
 -- Assumes nothing.
 use borrow.Author.Needs.{needs}
-use Rattle.fit.proofs.Starts.{described-form}
+use Rattle.legal.specs.Loop.{loopOf, pairOf}
+use Rattle.legal.specs.Shape.{sound-form}
+use Rattle.tables.specs.Edges.{told-form}
+use Rattle.tables.specs.Lent.{lent-form, lent-ends}
+use Rattle.fit.specs.Tables.{described}
 use Rattle.fit.proofs.fit_starts.Statement.{statement}
 use Rattle.fit.proofs.fit_starts.Tie as tie
 
+times-of-requires : tie.Need-times-of-requires
+times-of-requires c κs = search needs
+
 limits-of-requires : tie.Need-limits-of-requires
-limits-of-requires c κs = search needs
+limits-of-requires c κs =
+    let t = c .before .before .before .before in
+    lent-ends _ _ _ _ _ _ (lent-form (t .before .args .t1) _ (t .before .pre .0) (t .times-of .ensures))
 
 fit-limits-requires : tie.Need-fit-limits-requires
 fit-limits-requires c κs =
-    let l = c .before .before .before in
-    (l .before .args .t1, described-form _ (l .before .pre .0) _ _ (l .limits-of .ensures))
+    let t = c .before .before .before .before .before .before .before .before in
+    let f = t .before .args .t1 in
+    let lent = lent-form f _ (t .before .pre .0) (t .times-of .ensures) in (
+      loopOf f,
+      (
+        pairOf f,
+        described _ _ _ _ _ _ _ _ _ (sound-form f (t .before .pre .0)) (told-form f) (c .before .before .before .limits-of .ensures _ _ (lent .told) (lent .timed)),
+      ),
+    )
 
 returns : tie.Need-returns
 returns c =
-    let l = c .before .before .before .before in
-    c .fit-limits .ensures _ (described-form _ (l .before .pre .0) _ _ (l .limits-of .ensures))
+    let t = c .before .before .before .before .before .before .before .before .before in
+    let f = t .before .args .t1 in
+    let lent = lent-form f _ (t .before .pre .0) (t .times-of .ensures) in
+    c .fit-limits .ensures _ _ (described _ _ _ _ _ _ _ _ _ (sound-form f (t .before .pre .0)) (told-form f) (c .before .before .before .before .limits-of .ensures _ _ (lent .told) (lent .timed)))
 
 pub fit-starts-spec : {M : Type 1} → statement M
-fit-starts-spec = tie.close (tie.spec limits-of-requires fit-limits-requires returns)
+fit-starts-spec = tie.close (tie.spec times-of-requires limits-of-requires fit-limits-requires returns)

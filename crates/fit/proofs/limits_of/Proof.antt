@@ -1,58 +1,49 @@
 -- `fit::limits_of` meets its contract: the places passed are filled.
 -- Assumes nothing.
 use mathlib.Core.Path.{_≡_}
-use Prim.Native.Nat.{_≤_, _-_}
+use Prim.Native.Nat.{_≤_, _<_, _-_}
 use native.Mathlib.Omega.{arith}
-use lib.ListN.{length}
+use lib.ListN.{length, getD}
 use borrow.Author.Needs.{needs}
-use Rattle.legal.specs.Loop.{graphOf, loopOf, pairOf}
-use Rattle.legal.specs.Systems.{lateness}
+use Rattle.legal.specs.Loop.{Loop, Pair}
+use Rattle.tables.specs.Edges.{Told}
+use Rattle.tables.specs.Times.{Timed}
 use Rattle.fit.specs.Tables.{Limited}
-use Rattle.fit.proofs.Laws.{Ends, ends-in, limited-none, limited-more, limited-all}
+use Rattle.fit.proofs.Laws.{limited-none, limited-more, limited-all, gain-is, cost-is}
 use Rattle.fit.proofs.limits_of.Statement.{statement}
 use Rattle.fit.proofs.limits_of.Tie as tie
 
 abbrev Inv-loop : tie.InvT-loop
-Inv-loop form gains₀ costs₀ edges e₀ gains costs e = (e ≤ edges) × (length gains ≡ 256) × (length costs ≡ 256) × Limited form e gains costs
+Inv-loop edges from to delays times gains₀ costs₀ e₀ gains costs e = (e ≤ edges) × (length gains ≡ 256) × (length costs ≡ 256) × ((g : Loop) (p : Pair) → Told g (times .nodes) edges from to delays → Timed g p times → Limited g p e gains costs)
 
 abbrev μ-loop : tie.MeasureT-loop
-μ-loop form gains₀ costs₀ edges e₀ gains costs e = edges - e
-
-ends : (c : tie.In-loop Inv-loop μ-loop) → Ends (c .before .before .args .t1) (c .before .loop .e)
-ends c = ends-in _ (c .before .before .pre) _ (omega arith)
-
-cast-edges : tie.Need-cast-edges Inv-loop μ-loop
-cast-edges c = search needs
+μ-loop edges from to delays times gains₀ costs₀ e₀ gains costs e = edges - e
 
 loop-holds : tie.Need-loop-holds Inv-loop μ-loop
-loop-holds c = (search needs, search needs, search needs, limited-none _ _ _)
+loop-holds c = (search needs, search needs, search needs, λ g p told timed. limited-none g p _ _)
 
 element-copy-out-tail : tie.Need-element-copy-out-tail Inv-loop μ-loop
 element-copy-out-tail c = search needs
 
+-- an edge's nodes are places of the timetable
+tail-in : (c : tie.In-loop Inv-loop μ-loop) → getD (c .before .before .args .from .now) (c .before .loop .e) 0 < 64
+tail-in c =
+    let w = c .before .before .pre in
+    omega (arith, w .tail-in (c .before .loop .e) (omega arith), w .most)
+
+head-in : (c : tie.In-loop Inv-loop μ-loop) → getD (c .before .before .args .to .now) (c .before .loop .e) 0 < 64
+head-in c =
+    let w = c .before .before .pre in
+    omega (arith, w .head-in (c .before .loop .e) (omega arith), w .most)
+
 cast-tail : tie.Need-cast-tail Inv-loop μ-loop
-cast-tail c = search needs
+cast-tail c = omega (arith, tail-in (c .before))
 
 element-copy-out-head : tie.Need-element-copy-out-head Inv-loop μ-loop
 element-copy-out-head c = search needs
 
 cast-head : tie.Need-cast-head Inv-loop μ-loop
-cast-head c = search needs
-
-mul-class : tie.Need-mul-class Inv-loop μ-loop
-mul-class c = omega (arith, ends (c .before .before))
-
-element-copy-out-class : tie.Need-element-copy-out-class Inv-loop μ-loop
-element-copy-out-class c = omega (arith, ends (c .before .before))
-
-cast-class : tie.Need-cast-class Inv-loop μ-loop
-cast-class c = omega (arith, ends (c .before .before))
-
-mul-class-2 : tie.Need-mul-class-2 Inv-loop μ-loop
-mul-class-2 c = omega (arith, ends (c .before .before))
-
-element-copy-out-class-2 : tie.Need-element-copy-out-class-2 Inv-loop μ-loop
-element-copy-out-class-2 c = omega (arith, ends (c .before .before))
+cast-head c = omega (arith, head-in (c .before .before))
 
 element-copy-out-wide : tie.Need-element-copy-out-wide Inv-loop μ-loop
 element-copy-out-wide c = search needs
@@ -61,16 +52,19 @@ wide-requires : tie.Need-wide-requires Inv-loop μ-loop
 wide-requires c κs = search needs
 
 mul-late : tie.Need-mul-late Inv-loop μ-loop
-mul-late c = omega (arith, ends (c .before .before .before .before .before))
+mul-late c = omega (arith, tail-in (c .before .before .before .before))
 
 element-copy-out-late : tie.Need-element-copy-out-late Inv-loop μ-loop
-element-copy-out-late c = omega (arith, ends (c .before .before .before .before .before))
-
-mul-late-2 : tie.Need-mul-late-2 Inv-loop μ-loop
-mul-late-2 c = omega (arith, ends (c .before .before .before .before .before))
+element-copy-out-late c = omega (arith, tail-in (c .before .before .before .before))
 
 element-copy-out-late-2 : tie.Need-element-copy-out-late-2 Inv-loop μ-loop
-element-copy-out-late-2 c = omega (arith, ends (c .before .before .before .before .before))
+element-copy-out-late-2 c = omega (arith, tail-in (c .before .before .before .before .before))
+
+mul-late-2 : tie.Need-mul-late-2 Inv-loop μ-loop
+mul-late-2 c = omega (arith, head-in (c .before .before .before .before .before .before))
+
+element-copy-out-late-3 : tie.Need-element-copy-out-late-3 Inv-loop μ-loop
+element-copy-out-late-3 c = omega (arith, head-in (c .before .before .before .before .before .before))
 
 late-requires : tie.Need-late-requires Inv-loop μ-loop
 late-requires c κs = search needs
@@ -94,13 +88,21 @@ loop-less : tie.Need-loop-less Inv-loop μ-loop
 loop-less c = search needs
 
 loop-again : tie.Need-loop-again Inv-loop μ-loop
-unfolding loopOf pairOf graphOf lateness
 loop-again c =
-    let l = c .before .before .before .before .before .before .before in
-    (search needs, search needs, search needs, limited-more _ _ _ (l .loop .e) _ _ (omega arith) (omega arith) (c .before .wide .ensures .0) (c .late .ensures) (l .loop .inv .3))
+    let l = c .before .before .before .before .before .before .before .before .before .loop in
+    let b = c .before .before .before .before .before .before .before .before .before .before in
+    let e-in : l .e < b .args .edges = omega arith in (
+      search needs,
+      search needs,
+      search needs,
+      λ g p told timed. limited-more g p (l .e) _ _ _ _ (omega arith) (omega arith)
+          (gain-is g p _ _ _ _ _ (b .pre) told timed (l .e) _ e-in (c .before .before .before .before .wide .ensures .0))
+          (cost-is g p _ _ _ _ _ (b .pre) told timed (l .e) _ e-in (c .late .ensures))
+          (l .inv .3 g p told timed),
+    )
 
 returns : tie.Need-returns Inv-loop μ-loop
-returns c = limited-all _ _ _ _ _ (c .loop-test .left) (c .before .loop .inv .3)
+returns c = λ g p told timed. limited-all g p _ _ _ _ (c .loop-test .left) (c .before .loop .inv .3 g p told timed)
 
 pub limits-of-spec : {M : Type 1} → statement M
 limits-of-spec =
@@ -108,23 +110,18 @@ limits-of-spec =
     (tie.spec
     Inv-loop
     μ-loop
-    cast-edges
     loop-holds
     element-copy-out-tail
     cast-tail
     element-copy-out-head
     cast-head
-    mul-class
-    element-copy-out-class
-    cast-class
-    mul-class-2
-    element-copy-out-class-2
     element-copy-out-wide
     wide-requires
     mul-late
     element-copy-out-late
-    mul-late-2
     element-copy-out-late-2
+    mul-late-2
+    element-copy-out-late-3
     late-requires
     mul-gains
     array-write-gains

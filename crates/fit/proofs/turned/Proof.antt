@@ -1,11 +1,11 @@
 -- `fit::turned` meets its contract: the places passed are filled.
 -- Assumes nothing.
-use mathlib.Core.Path.{_≡_}
+use mathlib.Core.Path.{_≡_, refl}
 use Prim.Native.Nat.{_≤_, _-_}
 use native.Mathlib.Omega.{arith}
 use borrow.Author.Needs.{needs}
+use Rattle.lists.specs.Filled.{fill-none, fill-more}
 use Rattle.fit.specs.Tables.{turnedOver}
-use Rattle.fit.proofs.Laws.{turned-none, turned-more}
 use Rattle.fit.proofs.turned.Statement.{statement}
 use Rattle.fit.proofs.turned.Tie as tie
 
@@ -16,7 +16,8 @@ abbrev μ-loop : tie.MeasureT-loop
 μ-loop values nodes highest retiming₀ v₀ retiming v = nodes - v
 
 loop-holds : tie.Need-loop-holds Inv-loop μ-loop
-loop-holds c = (search needs, turned-none _ _)
+unfolding turnedOver
+loop-holds c = (search needs, fill-none _ _)
 
 cast-i : tie.Need-cast-i Inv-loop μ-loop
 cast-i c = search needs
@@ -43,9 +44,10 @@ loop-less : tie.Need-loop-less Inv-loop μ-loop
 loop-less c = search needs
 
 loop-again : tie.Need-loop-again Inv-loop μ-loop
+unfolding turnedOver
 loop-again c =
     let l = c .before .before in
-    (search needs, turned-more _ _ (l .loop .v) _ (omega arith) (l .loop .inv .1))
+    (search needs, fill-more _ _ (l .loop .v) _ _ (omega arith) refl (l .loop .inv .1))
 
 returns : tie.Need-returns Inv-loop μ-loop
 returns c =

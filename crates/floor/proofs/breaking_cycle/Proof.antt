@@ -1,25 +1,17 @@
 -- `floor::breaking_cycle` meets its contract: the tables hold the system of the length.
 -- Assumes nothing.
-use native.Mathlib.Omega.{arith}
-use Rattle.floor.proofs.Laws.{held-joined, held-breaks}
+use Rattle.floor.proofs.Laws.{edged-bounds, held-joined, held-breaks}
 use Rattle.floor.proofs.breaking_cycle.Statement.{statement}
 use Rattle.floor.proofs.breaking_cycle.Tie as tie
 
 gains-of-requires : tie.Need-gains-of-requires
-gains-of-requires c κs =
-    let a = c .before .before in
-    ((a .pre .0 .edges, a .pre .1 .1 .0), λ e l. a .pre .0 .edge e l .delays)
+gains-of-requires c κs = ((c .pre .0 .ends .few, c .pre .1), c .pre .0 .short)
 
 solve-requires : tie.Need-solve-requires
-solve-requires c κs =
-    let w = c .before .before .before .before .before .before .before .pre .0 in
-    ((w .nodes .0, w .nodes .1, w .edges), held-joined _ w 0 _ _)
+solve-requires c κs = (edged-bounds _ _ _ _ _ (c .before .before .pre .0), held-joined _ _ _ _ _ (c .before .before .pre .0) 0 _ _)
 
 returns : tie.Need-returns
-returns c =
-    let g = c .before .before .before .before .before .before in
-    let a = g .before .before .before in
-    held-breaks (a .args .t1) (a .pre .0) (a .args .length) _ _ (g .gains-of .ensures) (a .pre .1 .0) _ (c .before .solve .ensures) (a .pre .1 .1 .1)
+returns c g told costed = held-breaks _ _ _ _ _ (c .before .before .before .before .pre .0) (c .before .before .before .before .args .length) _ _ (c .before .before .before .gains-of .ensures) g told costed _ (c .before .solve .ensures)
 
 pub breaking-cycle-spec : {M : Type 1} → statement M
 breaking-cycle-spec = tie.close (tie.spec gains-of-requires solve-requires returns)

@@ -4,7 +4,8 @@ use mathlib.Core.Path.{_≡_, subst}
 use mathlib.Core.Logic.{⊎-elim}
 use Prim.Native.Nat.{ℕ, _≤_, _-_}
 use native.Mathlib.Omega.{arith}
-use Rattle.legal.specs.Loop.{loopOf}
+use Rattle.legal.specs.Loop.{Loop, Pair}
+use Rattle.tables.specs.Times.{Timed}
 use Rattle.floor.specs.Tables.{Busy}
 use Rattle.floor.proofs.Laws.{busy-none, busy-here, busy-past, part-is}
 use borrow.Author.Needs.{needs}
@@ -12,13 +13,13 @@ use Rattle.floor.proofs.busiest_class.Statement.{statement}
 use Rattle.floor.proofs.busiest_class.Tie as tie
 
 abbrev Inv-loop : tie.InvT-loop
-Inv-loop kind form part₀ number₀ c₀ c-end part number c = (c ≤ form .classes) × Busy (loopOf form) c part number
+Inv-loop times part₀ number₀ c₀ c-end part number c = (c ≤ times .classes) × ((g : Loop) (p : Pair) → Timed g p times → Busy g c part number)
 
 abbrev μ-loop : tie.MeasureT-loop
-μ-loop kind form part₀ number₀ c₀ c-end part number c = form .classes - c
+μ-loop times part₀ number₀ c₀ c-end part number c = times .classes - c
 
 loop-holds : tie.Need-loop-holds Inv-loop μ-loop
-loop-holds c = (search needs, busy-none _)
+loop-holds c = (search needs, λ g p timed. busy-none g)
 
 cast-class : tie.Need-cast-class Inv-loop μ-loop
 cast-class c = search needs
@@ -33,9 +34,7 @@ nodes-on-requires : tie.Need-nodes-on-requires Inv-loop μ-loop
 nodes-on-requires c κs = search needs
 
 units-part-requires : tie.Need-units-part-requires Inv-loop μ-loop
-units-part-requires c κs =
-    let l = c .before .before .before in
-    (l .before .pre .0 .class (l .loop .c) (omega arith), c .nodes-on .ensures .1)
+units-part-requires c κs = (c .before .before .before .before .before .before .pre .class (c .before .before .before .before .before .loop .c) (c .before .before .before .before .loop-test .taken), c .nodes-on .ensures .1)
 
 add-c : tie.Need-add-c Inv-loop μ-loop
 add-c c = search needs
@@ -45,21 +44,22 @@ loop-less c = search needs
 
 loop-again : tie.Need-loop-again Inv-loop μ-loop
 loop-again c =
-    let l = c .before .before .before .before .before in
-    let a = l .before in
-    let is = part-is (a .args .t1) (a .args .kind .now) (a .pre .1) (l .loop .c) _ _ (c .before .before .nodes-on .ensures .0) (c .before .units-part .ensures) in (
+    let l = c .before .before .before .before .before .before .before in
+    let t = l .before .args .t1 in (
       search needs,
-      ⊎-elim
-          (λ w. rw (w .1, w .2) (busy-here (a .args .t1) (l .loop .c) _ _ _ is (l .loop .inv .1) (w .0 .taken)))
-          (λ w. rw (w .1, w .2) (busy-past (a .args .t1) (l .loop .c) _ _ _ is (l .loop .inv .1) (w .0 .left)))
+      λ g p timed.
+          let is = part-is g p t timed (l .loop .c) _ _ (c .before .before .nodes-on .ensures .0) (c .before .units-part .ensures) in
+          ⊎-elim
+          (λ w. rw (w .1, w .2) (busy-here g (l .loop .c) _ _ _ is (l .loop .inv .1 g p timed) (w .0 .taken)))
+          (λ w. rw (w .1, w .2) (busy-past g (l .loop .c) _ _ _ is (l .loop .inv .1 g p timed) (w .0 .left)))
           (c .if1 .came),
     )
 
 returns : tie.Need-returns Inv-loop μ-loop
-returns c =
+returns c = λ g p timed.
     let l = c .before in
-    let e : l .loop .c ≡ l .before .args .t1 .classes = omega arith in
-    subst (λ (n : ℕ). Busy (loopOf (l .before .args .t1)) n (l .loop .part) (l .loop .number)) e (l .loop .inv .1)
+    let e : l .loop .c ≡ g .classes = omega (arith, timed .all-classes) in
+    subst (λ (n : ℕ). Busy g n (l .loop .part) (l .loop .number)) e (l .loop .inv .1 g p timed)
 
 pub busiest-class-spec : {M : Type 1} → statement M
 busiest-class-spec =

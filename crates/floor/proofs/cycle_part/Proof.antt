@@ -4,24 +4,24 @@ use mathlib.Core.Path.{_≡_, sym, _∙_}
 use mathlib.Core.Bool.{true, false}
 use Prim.Native.Nat.{ℕ, _-_, _≤_, _<_}
 use native.Mathlib.Omega.{arith}
-use Rattle.legal.specs.Loop.{loopOf}
-use Rattle.legal.specs.Shape.{sound-form}
+use Rattle.legal.specs.Loop.{Loop}
 use Rattle.legal.specs.Knots.{unknotted-free}
+use Rattle.floor.specs.Tables.{Paced}
 use Rattle.floor.specs.Least.{enough, enough-512, short-less, least-cycle}
 use borrow.Author.Needs.{needs}
 use Rattle.floor.proofs.cycle_part.Statement.{statement}
 use Rattle.floor.proofs.cycle_part.Tie as tie
 
 abbrev Inv-loop : tie.InvT-loop
-Inv-loop form costs short₀ long₀ short long = (short < long) × (long ≤ 512) × (enough (loopOf form) long ≡ true) × ((l : ℕ) → 1 ≤ l → l ≤ short → enough (loopOf form) l ≡ false)
+Inv-loop nodes edges from to delays costs short₀ long₀ short long =
+    (short < long) × (long ≤ 512)
+    × ((g : Loop) → Paced g nodes edges from to delays costs → (enough g long ≡ true) × ((l : ℕ) → 1 ≤ l → l ≤ short → enough g l ≡ false))
 
 abbrev μ-loop : tie.MeasureT-loop
-μ-loop form costs short₀ long₀ short long = long - short
+μ-loop nodes edges from to delays costs short₀ long₀ short long = long - short
 
 loop-holds : tie.Need-loop-holds Inv-loop μ-loop
-loop-holds c =
-    let g = loopOf (c .args .form) in
-    (omega arith, omega arith, enough-512 g (sound-form _ (c .pre .0)) (unknotted-free g (c .pre .1 .1)), λ l one z. absurd (omega arith))
+loop-holds c = (omega arith, omega arith, λ g paced. (enough-512 g (paced .sound) (unknotted-free g (paced .free)), λ l one z. absurd (omega arith)))
 
 add-loop : tie.Need-add-loop Inv-loop μ-loop
 add-loop c = search needs
@@ -38,22 +38,26 @@ loop-less c = search needs
 loop-again : tie.Need-loop-again Inv-loop μ-loop
 loop-again c =
     let i = c .before .before .before .loop .inv in
-    (omega arith, omega arith, sym (c .before .is-enough .ensures) ∙ c .if1 .taken, i .3)
+    (omega arith, omega arith, λ g paced. (sym (c .before .is-enough .ensures g (paced .told) (paced .costed)) ∙ c .if1 .taken, i .2 g paced .1))
 
 loop-less-2 : tie.Need-loop-less-2 Inv-loop μ-loop
 loop-less-2 c = search needs
 
 loop-again-2 : tie.Need-loop-again-2 Inv-loop μ-loop
 loop-again-2 c =
-    let l = c .before .before .before in
-    let g = loopOf (l .before .args .form) in
-    let short = sym (c .before .is-enough .ensures) ∙ c .if1 .left in
-    (omega arith, omega arith, l .loop .inv .2, λ k one z. short-less g (sound-form _ (l .before .pre .0)) k _ z short)
+    let i = c .before .before .before .loop .inv in (
+      omega arith,
+      omega arith,
+      λ g paced. (
+        i .2 g paced .0,
+        λ k one z. short-less g (paced .sound) k _ z (sym (c .before .is-enough .ensures g (paced .told) (paced .costed)) ∙ c .if1 .left),
+      ),
+    )
 
 returns : tie.Need-returns Inv-loop μ-loop
-returns c =
+returns c g paced =
     let i = c .before .loop .inv in
-    sym (least-cycle (loopOf (c .before .before .args .form)) (c .before .loop .long) (omega arith) (omega arith) (i .2) (λ k one l. i .3 k one (omega arith)))
+    sym (least-cycle g (c .before .loop .long) (omega arith) (omega arith) (i .2 g paced .0) (λ k one l. i .2 g paced .1 k one (omega arith)))
 
 pub cycle-part-spec : {M : Type 1} → statement M
 cycle-part-spec =

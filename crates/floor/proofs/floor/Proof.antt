@@ -1,8 +1,9 @@
--- `floor::floor` meets its contract: the reader's refusal, else the form's floor.
+-- `floor::floor` meets its contract: the reader's refusal, else the floor of the form.
 -- Assumes nothing.
 use mathlib.Core.Path.{sym, _∙_}
 use native.Mathlib.Omega.{arith}
 use borrow.Author.Tests.{not-true, not-false}
+use Rattle.tables.specs.Lent.{lent-form}
 use Rattle.floor.proofs.Answers.{read-good, record-refused, record-floored}
 use borrow.Author.Needs.{needs}
 use Rattle.floor.proofs.floor.Statement.{statement}
@@ -22,17 +23,30 @@ returns c =
     let r = c .before .before .before in
     record-refused _ _ (r .read .ensures) _ (sym (c .before .before .is-fine .ensures) ∙ not-true _ (c .before .if1 .taken)) (c .alone .ensures)
 
-floor-form-requires : tie.Need-floor-form-requires
-floor-form-requires c κs =
+times-of-requires : tie.Need-times-of-requires
+times-of-requires c κs =
     let r = c .before .before .before in
     read-good (r .before .before .args .«record» .now) _ (r .read .ensures) (λ i. omega (arith, r .before .shared-slice-known .given i)) (sym (c .before .before .is-fine .ensures) ∙ not-false _ (c .before .if1 .left))
 
+floor-tables-requires : tie.Need-floor-tables-requires
+floor-tables-requires c κs =
+    let r = c .before .before .before .before .before .before .before .before in
+    (r .read .result .form, lent-form _ _ (read-good (r .before .before .args .«record» .now) _ (r .read .ensures) (λ i. omega (arith, r .before .shared-slice-known .given i)) (sym (c .before .before .before .before .before .before .before .is-fine .ensures) ∙ not-false _ (c .before .before .before .before .before .before .if1 .left))) (c .before .before .before .before .times-of .ensures))
+
 returns-2 : tie.Need-returns-2
 returns-2 c =
-    let r = c .before .before .before .before in
-    record-floored _ _ (r .read .ensures) _ (sym (c .before .before .before .is-fine .ensures) ∙ not-false _ (c .before .before .if1 .left)) (c .floor-form .ensures)
+    let r = c .before .before .before .before .before .before .before .before .before in
+    record-floored _ _ (r .read .ensures) _ (sym (c .before .before .before .before .before .before .before .before .is-fine .ensures) ∙ not-false _ (c .before .before .before .before .before .before .before .if1 .left))
+    (c .floor-tables .ensures _ (lent-form _ _ (read-good (r .before .before .args .«record» .now) _ (r .read .ensures) (λ i. omega (arith, r .before .shared-slice-known .given i)) (sym (c .before .before .before .before .before .before .before .before .is-fine .ensures) ∙ not-false _ (c .before .before .before .before .before .before .before .if1 .left))) (c .before .before .before .before .before .times-of .ensures)))
 
 pub floor-spec : {M : Type 1} → statement M
 floor-spec =
     tie.close
-    (tie.spec read-requires is-fine-requires alone-requires returns floor-form-requires returns-2)
+    (tie.spec
+    read-requires
+    is-fine-requires
+    alone-requires
+    returns
+    times-of-requires
+    floor-tables-requires
+    returns-2)

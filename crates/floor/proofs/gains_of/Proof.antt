@@ -4,7 +4,7 @@ use mathlib.Core.Path.{_≡_, ap}
 use Prim.Native.Nat.{ℕ, _*_, _-_, _≤_, _<_}
 use native.Mathlib.Omega.{arith}
 use lib.ListN.{length as listLength, getD}
-use Rattle.knots.proofs.Laws.{filled-more}
+use Rattle.lists.specs.Place.{filled-more}
 use Rattle.floor.proofs.Laws.{product}
 use borrow.Author.Needs.{needs}
 use Rattle.floor.proofs.gains_of.Statement.{statement}

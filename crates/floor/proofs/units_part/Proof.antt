@@ -1,6 +1,5 @@
 -- `floor::units_part` meets its contract.
 -- Assumes nothing.
-use mathlib.Core.Path.{_≡_}
 use borrow.Author.Needs.{needs}
 use Rattle.floor.proofs.units_part.Statement.{statement}
 use Rattle.floor.proofs.units_part.Tie as tie

@@ -5,7 +5,7 @@ use Prim.Native.Nat.{ℕ, _*_, _-_, _≤_, _<_}
 use native.Mathlib.Omega.{arith}
 use lib.ListN.{length, getD}
 use borrow.Author.Needs.{needs}
-use Rattle.knots.proofs.Laws.{filled-more}
+use Rattle.lists.specs.Place.{filled-more}
 use Rattle.knots.proofs.gains_of.Statement.{statement}
 use Rattle.knots.proofs.gains_of.Tie as tie
 

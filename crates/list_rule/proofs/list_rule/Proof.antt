@@ -11,33 +11,34 @@ use Rattle.form.specs.Ranges.{WellFormed}
 use Rattle.list_rule.specs.Tables.{numbersOf}
 use Rattle.list_rule.proofs.Laws.{tests}
 use Rattle.list_rule.proofs.Units.{Board, board-of, used-fits}
+use Rattle.list_rule.proofs.Waits.{edges-in}
 use Rattle.list_rule.proofs.Steps.{Ordered, ordered-of, ordered-in, Filling, filling-none, filling-end, filling-done, Trying, trying-none, trying-end, trying-placed, trying-waits, trying-full, trying-put, Searching, searching-none, searching-next, searching-full, searching-end}
 use Rattle.list_rule.proofs.list_rule.Statement.{statement}
 use Rattle.list_rule.proofs.list_rule.Tie as tie
 
 abbrev Inv-loop : tie.InvT-loop
-Inv-loop form nodes order start busy p waits i₀ v number class hold q₀ q-end i q =
+Inv-loop form nodes order start busy times p waits i₀ v number class hold q₀ q-end i q =
     (i ≡ i₀) × (q ≤ q-end) × (q-end ≤ 1031) × Searching form (numbersOf start) v p q-end q
 
 abbrev μ-loop : tie.MeasureT-loop
-μ-loop form nodes order start busy p waits i₀ v number class hold q₀ q-end i q = q-end - q
+μ-loop form nodes order start busy times p waits i₀ v number class hold q₀ q-end i q = q-end - q
 
 abbrev Inv-nodes : tie.InvT-nodes
-Inv-nodes form nodes order start₀ busy₀ p waits i₀ start busy i = (i ≤ form .nodes) × Trying form order start₀ p i start busy
+Inv-nodes form nodes order start₀ busy₀ times p waits i₀ start busy i = (i ≤ form .nodes) × Trying form order start₀ p i start busy
 
 abbrev μ-nodes : tie.MeasureT-nodes
-μ-nodes form nodes order start₀ busy₀ p waits i₀ start busy i = form .nodes - i
+μ-nodes form nodes order start₀ busy₀ times p waits i₀ start busy i = form .nodes - i
 
 abbrev Inv-steps : tie.InvT-steps
-Inv-steps form nodes order start₀ busy₀ p₀ start busy p = (1 ≤ p) × (p ≤ 1024) × Filling form p start busy
+Inv-steps form nodes order start₀ busy₀ times p₀ start busy p = (1 ≤ p) × (p ≤ 1024) × Filling form p start busy
 
 abbrev μ-steps : tie.MeasureT-steps
-μ-steps form nodes order start₀ busy₀ p₀ start busy p = 1024 - p
+μ-steps form nodes order start₀ busy₀ times p₀ start busy p = 1024 - p
 
 -- the order, from the weights given
-ordered : (c : tie.After-busy-of Inv-loop μ-loop Inv-nodes μ-nodes Inv-steps μ-steps) → Ordered (c .before .before .before .args .t1) (c .before .before .order-of .result)
+ordered : (c : tie.After-times-of Inv-loop μ-loop Inv-nodes μ-nodes Inv-steps μ-steps) → Ordered (c .before .before .before .before .args .t1) (c .before .before .before .order-of .result)
 ordered c =
-    let o = c .before .before in
+    let o = c .before .before .before in
     ordered-of _ (o .before .args .weight) _ (o .before .pre .0 .0) (o .before .pre .1) (o .order-of .ensures .0) (o .order-of .ensures .1)
 
 order-of-requires : tie.Need-order-of-requires Inv-loop μ-loop Inv-nodes μ-nodes Inv-steps μ-steps
@@ -46,34 +47,41 @@ order-of-requires c κs = search needs
 busy-of-requires : tie.Need-busy-of-requires Inv-loop μ-loop Inv-nodes μ-nodes Inv-steps μ-steps
 busy-of-requires c κs = search needs
 
+times-of-requires : tie.Need-times-of-requires Inv-loop μ-loop Inv-nodes μ-nodes Inv-steps μ-steps
+times-of-requires c κs = search needs
+
 steps-holds : tie.Need-steps-holds Inv-loop μ-loop Inv-nodes μ-nodes Inv-steps μ-steps
-steps-holds c = (omega arith, omega arith, filling-none _ _ (search tests) (c .busy-of .ensures))
+steps-holds c = (omega arith, omega arith, filling-none _ _ (search tests) (c .before .busy-of .ensures))
 
 unplaced-requires : tie.Need-unplaced-requires Inv-loop μ-loop Inv-nodes μ-nodes Inv-steps μ-steps
 unplaced-requires c κs = search needs
 
 waiting-requires : tie.Need-waiting-requires Inv-loop μ-loop Inv-nodes μ-nodes Inv-steps μ-steps
-waiting-requires c κs = search needs
+waiting-requires c κs = edges-in _ (c .before .before .before .before .before .before .before .before .before .before .before .before .before .before .before .pre .0 .0)
 
 nodes-holds : tie.Need-nodes-holds Inv-loop μ-loop Inv-nodes μ-nodes Inv-steps μ-steps
 nodes-holds c =
-    let s = c .before .before .before .before in
-    (omega arith, trying-none _ _ _ _ (s .steps .inv .2) (omega arith) _ (c .before .before .unplaced .ensures) (c .before .if1 .left) _ (ordered (s .before)))
+    let s = c .before .before .before .before .before .before .before .before .before .before .before in
+    (omega arith, trying-none _ _ _ _ (s .steps .inv .2) (omega (arith, c .before .before .before .before .before .before .before .before .before .before .steps-test .taken)) _ (c .before .before .before .before .before .before .before .before .before .unplaced .ensures) (c .before .before .before .before .before .before .before .before .if1 .left) _ (ordered (s .before)))
+
+-- what is had before the steps
+abbrev begun : tie.In-nodes Inv-loop μ-loop Inv-nodes μ-nodes Inv-steps μ-steps → tie.After-times-of Inv-loop μ-loop Inv-nodes μ-nodes Inv-steps μ-steps
+begun c = c .before .before .before .before .before .before .before .before .before .before .before .before .before .before
 
 -- the node tried is one of the form, and its class one of the board
-well : (c : tie.In-nodes Inv-loop μ-loop Inv-nodes μ-nodes Inv-steps μ-steps) → WellFormed (c .before .before .before .before .before .before .before .before .before .before .args .t1)
-well c = c .before .before .before .before .before .before .before .before .before .before .pre .0 .0
+well : (c : tie.In-nodes Inv-loop μ-loop Inv-nodes μ-nodes Inv-steps μ-steps) → WellFormed (begun c .before .before .before .before .args .t1)
+well c = begun c .before .before .before .before .pre .0 .0
 
-sorted : (c : tie.In-nodes Inv-loop μ-loop Inv-nodes μ-nodes Inv-steps μ-steps) → Ordered (c .before .before .before .before .before .before .before .before .before .before .args .t1) (c .before .before .before .before .before .before .before .before .before .order-of .result)
-sorted c = ordered (c .before .before .before .before .before .before .before)
+sorted : (c : tie.In-nodes Inv-loop μ-loop Inv-nodes μ-nodes Inv-steps μ-steps) → Ordered (begun c .before .before .before .before .args .t1) (begun c .before .before .before .order-of .result)
+sorted c = ordered (begun c)
 
-node-in : (c : tie.In-nodes Inv-loop μ-loop Inv-nodes μ-nodes Inv-steps μ-steps) → getD (c .before .before .before .before .before .before .before .before .before .order-of .result) (c .before .nodes .i) 0 < c .before .before .before .before .before .before .before .before .before .before .args .t1 .nodes
+node-in : (c : tie.In-nodes Inv-loop μ-loop Inv-nodes μ-nodes Inv-steps μ-steps) → getD (begun c .before .before .before .order-of .result) (c .before .nodes .i) 0 < begun c .before .before .before .before .args .t1 .nodes
 node-in c = ordered-in _ _ (well c) (sorted c) _ (c .nodes-test .taken)
 
-node-place : (c : tie.In-nodes Inv-loop μ-loop Inv-nodes μ-nodes Inv-steps μ-steps) → getD (c .before .before .before .before .before .before .before .before .before .order-of .result) (c .before .nodes .i) 0 < 64
+node-place : (c : tie.In-nodes Inv-loop μ-loop Inv-nodes μ-nodes Inv-steps μ-steps) → getD (begun c .before .before .before .order-of .result) (c .before .nodes .i) 0 < 64
 node-place c = omega (arith, node-in c, well c .nodes .1)
 
-board : (c : tie.In-nodes Inv-loop μ-loop Inv-nodes μ-nodes Inv-steps μ-steps) → Board (c .before .before .before .before .before .before .before .before .before .before .args .t1) (getD (c .before .before .before .before .before .before .before .before .before .order-of .result) (c .before .nodes .i) 0)
+board : (c : tie.In-nodes Inv-loop μ-loop Inv-nodes μ-nodes Inv-steps μ-steps) → Board (begun c .before .before .before .before .args .t1) (getD (begun c .before .before .before .order-of .result) (c .before .nodes .i) 0)
 board c = board-of _ (well c) _ (node-in c)
 
 cast-v : tie.Need-cast-v Inv-loop μ-loop Inv-nodes μ-nodes Inv-steps μ-steps
@@ -111,7 +119,7 @@ nodes-again c =
       omega arith,
       ⊎-elim
           (λ k. trying-placed _ _ _ _ _ _ _ t (sorted n) (well n) (n .nodes-test .taken) (k .taken))
-          (λ k. trying-waits _ _ _ _ _ _ _ t (sorted n) (well n) (n .nodes-test .taken) _ (n .before .before .waiting .ensures) (eqb-false _ _ (not-true _ (k .1 .taken))))
+          (λ k. trying-waits _ _ _ _ _ _ _ t (sorted n) (well n) (n .nodes-test .taken) _ (begun n .times-of .ensures) _ (n .before .before .waiting .ensures) (eqb-false _ _ (not-true _ (k .1 .taken))))
           (c .if2 .came),
     )
 
@@ -136,11 +144,11 @@ hold-of-requires : tie.Need-hold-of-requires Inv-loop μ-loop Inv-nodes μ-nodes
 hold-of-requires c κs = search needs
 
 add-q-end : tie.Need-add-q-end Inv-loop μ-loop Inv-nodes μ-nodes Inv-steps μ-steps
-add-q-end c = omega (arith, board (c .before .before .before .before) .hold-in, c .hold-of .ensures, c .before .before .before .before .before .before .before .before .before .steps-test .taken)
+add-q-end c = omega (arith, board (c .before .before .before .before) .hold-in, c .hold-of .ensures, c .before .before .before .before .before .before .before .before .before .before .before .before .before .before .before .before .steps-test .taken)
 
 loop-holds : tie.Need-loop-holds Inv-loop μ-loop Inv-nodes μ-nodes Inv-steps μ-steps
 loop-holds c =
-    (refl, omega arith, omega (arith, board (c .before .before .before .before) .hold-in, c .hold-of .ensures, c .before .before .before .before .before .before .before .before .before .steps-test .taken), searching-none _ _ _ _ _ (c .hold-of .ensures))
+    (refl, omega arith, omega (arith, board (c .before .before .before .before) .hold-in, c .hold-of .ensures, c .before .before .before .before .before .before .before .before .before .before .before .before .before .before .before .before .steps-test .taken), searching-none _ _ _ _ _ (c .hold-of .ensures))
 
 spot-requires : tie.Need-spot-requires Inv-loop μ-loop Inv-nodes μ-nodes Inv-steps μ-steps
 spot-requires c κs = search needs
@@ -149,7 +157,9 @@ array-read-if4 : tie.Need-array-read-if4 Inv-loop μ-loop Inv-nodes μ-nodes Inv
 array-read-if4 c = omega (arith, c .spot .ensures .0, board (c .before .before .before .before .before .before .before) .class-in, c .before .loop-test .taken, c .before .before .loop .inv .2)
 
 add-i-2 : tie.Need-add-i-2 Inv-loop μ-loop Inv-nodes μ-nodes Inv-steps μ-steps
-add-i-2 c = search needs
+add-i-2 c =
+    let n = c .before .before .before .before .before .before .before .before .before in
+    omega (arith, c .before .before .before .before .loop .inv .0, n .nodes-test .taken, well n .nodes .1)
 
 nodes-less-2 : tie.Need-nodes-less-2 Inv-loop μ-loop Inv-nodes μ-nodes Inv-steps μ-steps
 nodes-less-2 c = search needs
@@ -160,7 +170,7 @@ nodes-again-2 c =
     let n = c .before .before .before .before .before .before .before .before .before in
     let t = n .before .nodes .inv .1 in
     let full = searching-full _ _ _ _ _ (t .used) (board n .class-in) _ _ (l .loop .inv .3) (c .before .before .before .loop-test .taken) (omega (arith, c .before .before .before .loop-test .taken, l .loop .inv .2)) _ (c .before .before .spot .ensures .0) (omega (arith, c .if4 .taken)) in
-    rw (l .loop .inv .0) (omega (arith, n .nodes-test .taken), trying-full _ _ _ _ _ _ _ t (sorted n) (well n) (n .nodes-test .taken) _ (n .before .before .waiting .ensures) full)
+    rw (l .loop .inv .0) (omega (arith, n .nodes-test .taken), trying-full _ _ _ _ _ _ _ t (sorted n) (well n) (n .nodes-test .taken) _ (begun n .times-of .ensures) _ (n .before .before .waiting .ensures) full)
 
 add-q : tie.Need-add-q Inv-loop μ-loop Inv-nodes μ-nodes Inv-steps μ-steps
 add-q c = omega (arith, c .before .before .before .loop-test .taken, c .before .before .before .before .loop .inv .2)
@@ -195,7 +205,9 @@ raise-requires c κs =
     )
 
 add-i-3 : tie.Need-add-i-3 Inv-loop μ-loop Inv-nodes μ-nodes Inv-steps μ-steps
-add-i-3 c = search needs
+add-i-3 c =
+    let n = c .before .before .before .before .before .before .before .before in
+    omega (arith, c .before .before .before .loop .inv .0, n .nodes-test .taken, well n .nodes .1)
 
 nodes-less-3 : tie.Need-nodes-less-3 Inv-loop μ-loop Inv-nodes μ-nodes Inv-steps μ-steps
 nodes-less-3 c = search needs
@@ -206,7 +218,7 @@ nodes-again-3 c =
     let n = c .before .before .before .before .before .before .before .before in
     let t = n .before .nodes .inv .1 in
     let found = searching-end _ _ _ _ _ _ (c .before .before .loop-test .left) (l .loop .inv .3) in
-    rw (l .loop .inv .0) (omega (arith, n .nodes-test .taken), trying-put _ _ _ _ _ _ _ t (sorted n) (well n) (n .nodes-test .taken) _ (n .before .before .waiting .ensures) _ _ (c .before .before .before .before .hold-of .ensures) (c .before .before .before .before .before .before .before .if2 .left) (eqb-true _ _ (not-false _ (c .before .before .before .before .before .before .if3 .left))) found (c .raise .ensures))
+    rw (l .loop .inv .0) (omega (arith, n .nodes-test .taken), trying-put _ _ _ _ _ _ _ t (sorted n) (well n) (n .nodes-test .taken) _ (begun n .times-of .ensures) _ (n .before .before .waiting .ensures) _ _ (c .before .before .before .before .hold-of .ensures) (c .before .before .before .before .before .before .before .if2 .left) (eqb-true _ _ (not-false _ (c .before .before .before .before .before .before .if3 .left))) found (c .raise .ensures))
 
 add-p : tie.Need-add-p Inv-loop μ-loop Inv-nodes μ-nodes Inv-steps μ-steps
 add-p c = search needs
@@ -235,6 +247,7 @@ list-rule-spec =
     μ-steps
     order-of-requires
     busy-of-requires
+    times-of-requires
     steps-holds
     unplaced-requires
     waiting-requires

@@ -6,17 +6,11 @@ use Rattle.listing.proofs.Laws.{counts-put}
 use Rattle.listing.proofs.put_counts.Statement.{statement}
 use Rattle.listing.proofs.put_counts.Tie as tie
 
-depth-of-requires : tie.Need-depth-of-requires
-depth-of-requires c κs = search needs
-
 put-sizes-requires : tie.Need-put-sizes-requires
 put-sizes-requires c κs = search needs
 
 slice-aggregate-put-field : tie.Need-slice-aggregate-put-field
 slice-aggregate-put-field c = search needs
-
-cast-put-field : tie.Need-cast-put-field
-cast-put-field c = search needs
 
 put-field-requires : tie.Need-put-field-requires
 put-field-requires c κs = search needs
@@ -35,16 +29,14 @@ same-length c = search needs
 
 returns : tie.Need-returns
 unfolding depthWord floorWord
-returns c = (search needs, counts-put _ _ _ _ _ _ _ _ _ _ _ _ _ (c .before .before .before .before .before .before .before .before .before .before .before .before .before .before .before .before .before .before .before .before .pre .1) (c .before .before .before .before .before .before .before .before .before .before .before .before .before .before .before .before .before .before .depth-of .ensures) (c .before .before .before .before .before .before .before .before .before .before .before .before .before .before .before .before .put-sizes .ensures .1) (c .before .before .before .before .before .before .before .before .before .before .before .put-field .ensures .1) (c .before .before .before .before .before .before .put-field2 .ensures .1) (c .before .before .put-verdict .ensures .1))
+returns c = (search needs, counts-put _ _ _ _ _ _ _ _ _ _ _ _ _ _ _ (c .before .before .before .before .before .before .before .before .before .before .before .before .before .before .before .before .put-sizes .ensures .1) (c .before .before .before .before .before .before .before .before .before .before .before .put-field .ensures .1) (c .before .before .before .before .before .before .put-field2 .ensures .1) (c .before .before .put-verdict .ensures .1))
 
 pub put-counts-spec : {M : Type 1} → statement M
 put-counts-spec =
     tie.close
     (tie.spec
-    depth-of-requires
     put-sizes-requires
     slice-aggregate-put-field
-    cast-put-field
     put-field-requires
     slice-aggregate-put-field-2
     put-field-requires-2

@@ -1,11 +1,16 @@
--- `listing::put_form` meets its contract: the mark, the counts, the lines.
+-- `listing::put_form` meets its contract: the mark, the counts, the lines of its timetable.
 -- Assumes nothing.
 use borrow.Author.Needs.{needs}
-use Rattle.writer.proofs.Laws.{both}
 use Rattle.listing.specs.Text.{markLine}
-use Rattle.listing.specs.Lines.{formLines}
+use Rattle.listing.proofs.Laws.{lines-put}
 use Rattle.listing.proofs.put_form.Statement.{statement}
 use Rattle.listing.proofs.put_form.Tie as tie
+
+times-of-requires : tie.Need-times-of-requires
+times-of-requires c κs = search needs
+
+largest-requires : tie.Need-largest-requires
+largest-requires c κs = search needs
 
 slice-aggregate-put-word : tie.Need-slice-aggregate-put-word
 slice-aggregate-put-word c = search needs
@@ -23,13 +28,15 @@ same-length : tie.Need-same-length
 same-length c = search needs
 
 returns : tie.Need-returns
-unfolding markLine formLines
-returns c = (search needs, both _ _ _ _ _ _ _ _ (c .before .before .before .before .before .before .before .before .before .before .put-word .ensures) (both _ _ _ _ _ _ _ _ (c .before .before .before .before .before .before .put-counts .ensures .1) (c .before .before .put-lines .ensures .1)))
+unfolding markLine
+returns c = (search needs, lines-put _ _ _ (c .before .before .before .before .before .before .before .before .before .before .before .before .before .before .before .before .before .before .before .times-of .ensures) (c .before .before .before .before .before .before .before .before .before .before .before .before .before .before .before .before .before .before .before .before .before .pre) _ (c .before .before .before .before .before .before .before .before .before .before .before .before .before .before .before .before .largest .ensures) _ _ _ _ _ _ _ (c .before .before .before .before .before .before .before .before .before .before .before .before .before .put-word .ensures) (c .before .before .before .before .before .before .before .before .before .put-counts .ensures .1) (c .before .before .put-lines .ensures .1))
 
 pub put-form-spec : {M : Type 1} → statement M
 put-form-spec =
     tie.close
     (tie.spec
+    times-of-requires
+    largest-requires
     slice-aggregate-put-word
     put-word-requires
     put-counts-requires

@@ -5,16 +5,16 @@ use native.Mathlib.Omega.{arith}
 use Rattle.writer.specs.Layout.{rows}
 use Rattle.writer.specs.Laid.{Laid}
 use Rattle.writer.proofs.Laws.{nothing, row-more, same-long}
-use Rattle.listing.specs.Lines.{stepLine}
+use Rattle.listing.specs.Lines.{cell, stepLine}
 use Rattle.listing.proofs.Laws.{tests, rows-whole}
 use Rattle.listing.proofs.put_lines.Statement.{statement}
 use Rattle.listing.proofs.put_lines.Tie as tie
 
 abbrev Inv-loop : tie.InvT-loop
-Inv-loop out₀ at form length next₀ i₀ out next i = (i ≤ length) × (next ≤ at + 517 * i) × Laid out₀ at (rows (λ k. stepLine form (k + 1)) i) out next
+Inv-loop out₀ at length nodes start retiming next₀ i₀ out next i = (i ≤ length) × (next ≤ at + 517 * i) × Laid out₀ at (rows (λ k. stepLine (cell start) (cell retiming) nodes (k + 1)) i) out next
 
 abbrev μ-loop : tie.MeasureT-loop
-μ-loop out₀ at form length next₀ i₀ out next i = length - i
+μ-loop out₀ at length nodes start retiming next₀ i₀ out next i = length - i
 
 loop-holds : tie.Need-loop-holds Inv-loop μ-loop
 unfolding rows

@@ -5,35 +5,32 @@ use native.Mathlib.Omega.{arith}
 use Rattle.writer.specs.Layout.{rows}
 use Rattle.writer.specs.Laid.{Laid}
 use Rattle.writer.proofs.Laws.{nothing, same-long}
-use Rattle.listing.specs.Lines.{nodeText}
+use Rattle.listing.specs.Lines.{cell, nodeText}
 use Rattle.listing.proofs.Laws.{tests, node-more, nodes-whole}
 use Rattle.listing.proofs.put_nodes.Statement.{statement}
 use Rattle.listing.proofs.put_nodes.Tie as tie
 
 abbrev Inv-loop : tie.InvT-loop
-Inv-loop out₀ at step form nodes next₀ i₀ out next i = (i ≤ nodes) × (next ≤ at + 8 * i) × Laid out₀ at (rows (nodeText form step) i) out next
+Inv-loop out₀ at step nodes start retiming count next₀ i₀ out next i = (i ≤ count) × (next ≤ at + 8 * i) × Laid out₀ at (rows (nodeText (cell start) (cell retiming) step) i) out next
 
 abbrev μ-loop : tie.MeasureT-loop
-μ-loop out₀ at step form nodes next₀ i₀ out next i = nodes - i
-
-cast-nodes : tie.Need-cast-nodes Inv-loop μ-loop
-cast-nodes c = search tests
+μ-loop out₀ at step nodes start retiming count next₀ i₀ out next i = count - i
 
 loop-holds : tie.Need-loop-holds Inv-loop μ-loop
 unfolding rows
 loop-holds c = (search tests, search tests, nothing _ _)
 
-mul-start : tie.Need-mul-start Inv-loop μ-loop
-mul-start c = search tests
-
-element-copy-out-start : tie.Need-element-copy-out-start Inv-loop μ-loop
-element-copy-out-start c = search tests
-
 cast-put-node : tie.Need-cast-put-node Inv-loop μ-loop
 cast-put-node c = search tests
 
+mul-put-node : tie.Need-mul-put-node Inv-loop μ-loop
+mul-put-node c = search tests
+
 element-copy-out-put-node : tie.Need-element-copy-out-put-node Inv-loop μ-loop
 element-copy-out-put-node c = search tests
+
+element-copy-out-put-node-2 : tie.Need-element-copy-out-put-node-2 Inv-loop μ-loop
+element-copy-out-put-node-2 c = search tests
 
 put-node-requires : tie.Need-put-node-requires Inv-loop μ-loop
 put-node-requires c κs = search tests
@@ -45,13 +42,13 @@ loop-less : tie.Need-loop-less Inv-loop μ-loop
 loop-less c = search tests
 
 loop-again : tie.Need-loop-again Inv-loop μ-loop
-loop-again c = (search tests, search tests, node-more _ _ _ _ _ _ _ _ _ (c .before .before .before .before .before .before .before .loop .inv .2) (c .before .before .put-node .ensures .1))
+loop-again c = (search tests, search tests, node-more _ _ _ _ _ _ _ _ _ _ (c .before .before .before .before .before .before .before .loop .inv .2) (c .before .before .put-node .ensures .1))
 
 same-length : tie.Need-same-length Inv-loop μ-loop
 same-length c = same-long _ _ _ _ _ (c .before .loop .inv .2)
 
 returns : tie.Need-returns Inv-loop μ-loop
-returns c = (search tests, nodes-whole _ _ _ _ _ _ _ (c .before .loop .inv .2) (omega arith))
+returns c = (search tests, nodes-whole _ _ _ _ _ _ _ _ _ (c .before .loop .inv .2) (omega arith))
 
 pub put-nodes-spec : {M : Type 1} → statement M
 put-nodes-spec =
@@ -59,12 +56,11 @@ put-nodes-spec =
     (tie.spec
     Inv-loop
     μ-loop
-    cast-nodes
     loop-holds
-    mul-start
-    element-copy-out-start
     cast-put-node
+    mul-put-node
     element-copy-out-put-node
+    element-copy-out-put-node-2
     put-node-requires
     add-i
     loop-less

@@ -1,12 +1,13 @@
 -- `listing::put_retiming` meets its contract: nothing, or "+" and a number.
 -- Assumes nothing.
+use native.Mathlib.Omega.{arith}
 use borrow.Author.Needs.{needs}
 use Rattle.listing.proofs.Laws.{retiming-none, retiming-some}
 use Rattle.listing.proofs.put_retiming.Statement.{statement}
 use Rattle.listing.proofs.put_retiming.Tie as tie
 
 returns : tie.Need-returns
-returns c = (search needs, retiming-none _ _ _ (c .if1 .taken))
+returns c = (search needs, retiming-none _ _ _ (omega (arith, c .if1 .taken)))
 
 put-byte-requires : tie.Need-put-byte-requires
 put-byte-requires c κs = search needs
@@ -18,7 +19,7 @@ same-length : tie.Need-same-length
 same-length c = search needs
 
 returns-2 : tie.Need-returns-2
-returns-2 c = (search needs, retiming-some _ _ _ _ _ _ _ (c .before .before .before .before .before .before .before .before .if1 .left) (c .before .before .before .before .before .before .put-byte .ensures .1) (c .before .before .put-number .ensures .1))
+returns-2 c = (search needs, retiming-some _ _ _ _ _ _ _ _ (λ e. omega (arith, e, c .before .before .before .before .before .before .before .before .if1 .left)) (c .before .before .before .before .before .before .put-byte .ensures .1) (c .before .before .put-number .ensures .1) (omega arith))
 
 pub put-retiming-spec : {M : Type 1} → statement M
 put-retiming-spec =

@@ -10,26 +10,17 @@ use Rattle.listing.proofs.put_sizes.Tie as tie
 slice-aggregate-put-field : tie.Need-slice-aggregate-put-field
 slice-aggregate-put-field c = search needs
 
-cast-put-field : tie.Need-cast-put-field
-cast-put-field c = search needs
-
 put-field-requires : tie.Need-put-field-requires
 put-field-requires c κs = search needs
 
 slice-aggregate-put-field-2 : tie.Need-slice-aggregate-put-field-2
 slice-aggregate-put-field-2 c = search needs
 
-cast-put-field-2 : tie.Need-cast-put-field-2
-cast-put-field-2 c = search needs
-
 put-field-requires-2 : tie.Need-put-field-requires-2
 put-field-requires-2 c κs = search needs
 
 slice-aggregate-put-field-3 : tie.Need-slice-aggregate-put-field-3
 slice-aggregate-put-field-3 c = search needs
-
-cast-put-field-3 : tie.Need-cast-put-field-3
-cast-put-field-3 c = search needs
 
 put-field-requires-3 : tie.Need-put-field-requires-3
 put-field-requires-3 c κs = search needs
@@ -39,20 +30,17 @@ same-length c = search needs
 
 returns : tie.Need-returns
 unfolding nodesWord edgesWord lengthWord sizesText
-returns c = (search needs, both _ _ _ _ _ _ _ _ (c .before .before .before .before .before .before .before .before .before .before .before .before .before .before .put-field .ensures .1) (both _ _ _ _ _ _ _ _ (c .before .before .before .before .before .before .before .before .put-field2 .ensures .1) (c .before .before .put-field3 .ensures .1)))
+returns c = (search needs, both _ _ _ _ _ _ _ _ (c .before .before .before .before .before .before .before .before .before .before .before .before .put-field .ensures .1) (both _ _ _ _ _ _ _ _ (c .before .before .before .before .before .before .before .put-field2 .ensures .1) (c .before .before .put-field3 .ensures .1)))
 
 pub put-sizes-spec : {M : Type 1} → statement M
 put-sizes-spec =
     tie.close
     (tie.spec
     slice-aggregate-put-field
-    cast-put-field
     put-field-requires
     slice-aggregate-put-field-2
-    cast-put-field-2
     put-field-requires-2
     slice-aggregate-put-field-3
-    cast-put-field-3
     put-field-requires-3
     same-length
     returns)

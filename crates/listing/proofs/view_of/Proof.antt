@@ -1,30 +1,85 @@
--- `listing::view_of` meets its contract: an accepted record's numbers are small, and its floor is its loop's.
+-- `listing::view_of` meets its contract: the reader's refusal, the judge's, else a form whose numbers are small, with its loop's floor.
 -- Assumes nothing.
+use mathlib.Core.Path.{sym, _∙_}
 use native.Mathlib.Omega.{arith}
+use borrow.Author.Tests.{not-true, not-false}
 use borrow.Author.Needs.{needs}
-use Rattle.listing.proofs.Accepted.{refused-viewed, form-viewed}
+use Rattle.tables.specs.Lent.{lent-form}
+use Rattle.judge.proofs.Laws.{read-good}
+use Rattle.listing.proofs.Accepted.{read-viewed, judged-viewed, form-viewed}
 use Rattle.listing.proofs.view_of.Statement.{statement}
 use Rattle.listing.proofs.view_of.Tie as tie
-
-judge-requires : tie.Need-judge-requires
-judge-requires c κs = search needs
-
-number-requires : tie.Need-number-requires
-number-requires c κs = search needs
 
 read-requires : tie.Need-read-requires
 read-requires c κs = search needs
 
-returns : tie.Need-returns
-returns c = refused-viewed _ _ _ _ (c .before .before .before .before .judge .ensures) (c .before .before .read .ensures) (c .before .before .before .number .ensures) (c .if1 .taken)
+is-fine-requires : tie.Need-is-fine-requires
+is-fine-requires c κs = search needs
 
-floor-requires : tie.Need-floor-requires
-floor-requires c κs = search needs
+refused-requires : tie.Need-refused-requires
+refused-requires c κs = search needs
+
+returns : tie.Need-returns
+returns c =
+    let r = c .before .before .before .before in
+    read-viewed _ _ (r .read .ensures) (sym (c .before .before .is-fine .ensures) ∙ not-true _ (c .before .if1 .taken)) _ (c .refused .ensures)
+
+times-of-requires : tie.Need-times-of-requires
+times-of-requires c κs =
+    let r = c .before .before .before in
+    let fine = sym (c .before .is-fine .ensures) ∙ not-false _ (c .if1 .left) in
+    read-good (r .before .before .args .«record» .now) _ (r .read .ensures) (λ i. omega (arith, r .before .shared-slice-known .given i)) fine
+
+judge-tables-requires : tie.Need-judge-tables-requires
+judge-tables-requires c κs =
+    let r = c .before .before .before .before .before .before .before .before in
+    let fine = sym (c .before .before .before .before .before .before .is-fine .ensures) ∙ not-false _ (c .before .before .before .before .before .if1 .left) in
+    let w = read-good (r .before .before .args .«record» .now) _ (r .read .ensures) (λ i. omega (arith, r .before .shared-slice-known .given i)) fine in
+    let lent = lent-form _ _ w (c .before .before .before .before .times-of .ensures) in
+    (r .read .result .form, lent)
+
+is-fine-requires-2 : tie.Need-is-fine-requires-2
+is-fine-requires-2 c κs = search needs
+
+refused-requires-2 : tie.Need-refused-requires-2
+refused-requires-2 c κs = search needs
 
 returns-2 : tie.Need-returns-2
-returns-2 c = form-viewed _ _ _ _ (c .before .before .before .before .before .judge .ensures) (c .before .before .before .read .ensures) (c .before .before .before .before .number .ensures) (λ i. omega (arith, c .before .before .before .before .before .before .shared-slice-known .given i)) (c .before .if1 .left) _ (c .floor .ensures)
+returns-2 c =
+    let r = c .before .before .before .before .before .before .before .before .before .before .before .before in
+    let fine = sym (c .before .before .before .before .before .before .before .before .before .before .is-fine .ensures) ∙ not-false _ (c .before .before .before .before .before .before .before .before .before .if1 .left) in
+    let w = read-good (r .before .before .args .«record» .now) _ (r .read .ensures) (λ i. omega (arith, r .before .shared-slice-known .given i)) fine in
+    let lent = lent-form _ _ w (c .before .before .before .before .before .before .before .before .times-of .ensures) in
+    judged-viewed _ _ (r .read .ensures) fine _ (c .before .before .before .judge-tables .ensures _ lent) (sym (c .before .before .is-fine2 .ensures) ∙ not-true _ (c .before .if2 .taken)) _ (c .refused2 .ensures)
+
+floor-tables-requires : tie.Need-floor-tables-requires
+floor-tables-requires c κs =
+    let r = c .before .before .before .before .before .before .before .before .before .before .before .before .before .before .before in
+    let fine = sym (c .before .before .before .before .before .before .before .before .before .before .before .before .before .is-fine .ensures) ∙ not-false _ (c .before .before .before .before .before .before .before .before .before .before .before .before .if1 .left) in
+    let w = read-good (r .before .before .args .«record» .now) _ (r .read .ensures) (λ i. omega (arith, r .before .shared-slice-known .given i)) fine in
+    let lent = lent-form _ _ w (c .before .before .before .before .before .before .before .before .before .before .before .times-of .ensures) in
+    (r .read .result .form, lent)
+
+returns-3 : tie.Need-returns-3
+returns-3 c =
+    let r = c .before .before .before .before .before .before .before .before .before .before .before .before .before .before .before .before in
+    let fine = sym (c .before .before .before .before .before .before .before .before .before .before .before .before .before .before .is-fine .ensures) ∙ not-false _ (c .before .before .before .before .before .before .before .before .before .before .before .before .before .if1 .left) in
+    let w = read-good (r .before .before .args .«record» .now) _ (r .read .ensures) (λ i. omega (arith, r .before .shared-slice-known .given i)) fine in
+    let lent = lent-form _ _ w (c .before .before .before .before .before .before .before .before .before .before .before .before .times-of .ensures) in
+    form-viewed (r .before .before .args .«record» .now) _ (r .read .ensures) fine _ (c .before .before .before .before .before .before .before .judge-tables .ensures _ lent) (λ i. omega (arith, r .before .shared-slice-known .given i)) (sym (c .before .before .before .before .before .before .is-fine2 .ensures) ∙ not-false _ (c .before .before .before .before .before .if2 .left)) _ (c .floor-tables .ensures _ lent)
 
 pub view-of-spec : {M : Type 1} → statement M
 view-of-spec =
     tie.close
-    (tie.spec judge-requires number-requires read-requires returns floor-requires returns-2)
+    (tie.spec
+    read-requires
+    is-fine-requires
+    refused-requires
+    returns
+    times-of-requires
+    judge-tables-requires
+    is-fine-requires-2
+    refused-requires-2
+    returns-2
+    floor-tables-requires
+    returns-3)

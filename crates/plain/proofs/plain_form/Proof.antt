@@ -6,7 +6,7 @@ use borrow.Author.Needs.{needs}
 use borrow.Author.Tests.{not-true, not-false}
 use Rattle.legal.specs.Loop.{loopOf}
 use Rattle.list_rule.proofs.Ordering.{table-below}
-use Rattle.knots.specs.Found.{ends-form, told-form}
+use Rattle.tables.specs.Edges.{ends-form, told-form}
 use Rattle.plain.proofs.Answers.{room-for, looped-knot, looped-refused, looped-done}
 use Rattle.plain.proofs.plain_form.Statement.{statement}
 use Rattle.plain.proofs.plain_form.Tie as tie

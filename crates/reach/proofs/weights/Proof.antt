@@ -8,13 +8,14 @@ use borrow.Author.Needs.{needs}
 use Rattle.form.specs.Places.{retimingOf}
 use Rattle.legal.specs.Loop.{loopOf}
 use Rattle.reach.specs.Weight.{weight}
-use Rattle.reach.proofs.Laws.{filled, filled-none, filled-more, fits-form, weight-form, weights-form}
+use Rattle.lists.specs.Filled.{filled, fill-none, fill-more}
+use Rattle.reach.proofs.Laws.{fits-form, weight-form, weights-form}
 use Rattle.reach.proofs.weights.Statement.{statement}
 use Rattle.reach.proofs.weights.Tie as tie
 
 abbrev Inv-loop : tie.InvT-loop
 Inv-loop form tights out weights₀ v₀ v-end weights v =
-    (v-end ≡ form .nodes) × (v ≤ form .nodes) × (length weights ≡ 64) × (weights ≡ filled (weight (loopOf form) (retimingOf form)) v)
+    (v-end ≡ form .nodes) × (v ≤ form .nodes) × (length weights ≡ 64) × (weights ≡ filled 64 (weight (loopOf form) (retimingOf form)) v)
 
 abbrev μ-loop : tie.MeasureT-loop
 μ-loop form tights out weights₀ v₀ v-end weights v = v-end - v
@@ -28,7 +29,7 @@ links-of-requires c κs =
     (w .edges, λ e l. omega (arith, w .nodes, w .edge e l))
 
 loop-holds : tie.Need-loop-holds Inv-loop μ-loop
-loop-holds c = (search needs, search needs, search needs, filled-none _)
+loop-holds c = (search needs, search needs, search needs, fill-none _ _)
 
 weight-of-requires : tie.Need-weight-of-requires Inv-loop μ-loop
 weight-of-requires c κs =
@@ -56,7 +57,7 @@ loop-again c =
       search needs,
       search needs,
       search needs,
-      filled-more _ (l .v) _ _ (omega arith) (weight-form _ (l .v) _ _ _ _ (start .before .pre) (s .links-of .ensures) (start .tights-of .ensures) (c .weight-of .ensures)) (l .inv .3),
+      fill-more _ _ (l .v) _ _ (omega arith) (weight-form _ (l .v) _ _ _ _ (start .before .pre) (s .links-of .ensures) (start .tights-of .ensures) (c .weight-of .ensures)) (l .inv .3),
     )
 
 returns : tie.Need-returns Inv-loop μ-loop

@@ -1,11 +1,10 @@
+-- `reader::class_row` meets its contract.
+-- Assumes nothing.
 use native.Mathlib.Omega.{arith}
 use Rattle.reader.specs.Rows.{classAt}
 use borrow.Author.Needs.{needs}
 use Rattle.reader.proofs.class_row.Statement.{statement}
 use Rattle.reader.proofs.class_row.Tie as tie
-use Rattle.reader.proofs.class_row.Reads as reads
-use Rattle.reader.proofs.class_row.Lts as lts
-use Rattle.field.proofs.take.Reads as take-reads
 
 take-requires : tie.Need-take-requires
 take-requires c κs = search needs

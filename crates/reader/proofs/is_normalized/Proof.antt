@@ -1,12 +1,11 @@
+-- `reader::is_normalized` meets its contract.
+-- Assumes nothing.
 use Rattle.lists.specs.Pick.{pick}
 use Rattle.reader.proofs.Laws.{tests}
 use Rattle.reader.specs.Reading.{normalized}
 use borrow.Author.Needs.{needs}
 use Rattle.reader.proofs.is_normalized.Statement.{statement}
 use Rattle.reader.proofs.is_normalized.Tie as tie
-use Rattle.reader.proofs.is_normalized.Reads as reads
-use Rattle.reader.proofs.is_normalized.Lts as lts
-use Rattle.reader.proofs.some_zero.Reads as some-zero-reads
 
 returns : tie.Need-returns
 unfolding normalized pick

@@ -1,3 +1,5 @@
+-- `reader::latency_of` meets its contract.
+-- Assumes nothing.
 use mathlib.Core.Path.{_≡_, sym, ap}
 use lib.ListN.{length, List·getD-eq-default}
 use native.Mathlib.Omega.{arith}
@@ -9,8 +11,6 @@ use lib.ListN.{List·getD-eq-default}
 use borrow.Author.Needs.{needs}
 use Rattle.reader.proofs.latency_of.Statement.{statement}
 use Rattle.reader.proofs.latency_of.Tie as tie
-use Rattle.reader.proofs.latency_of.Reads as reads
-use Rattle.reader.proofs.latency_of.Lts as lts
 
 mul-result : tie.Need-mul-result
 mul-result c = search needs

@@ -1,13 +1,10 @@
+-- `reader::node_row` meets its contract.
+-- Assumes nothing.
 use native.Mathlib.Omega.{arith}
 use Rattle.reader.specs.Rows.{nodeAt}
 use borrow.Author.Needs.{needs}
 use Rattle.reader.proofs.node_row.Statement.{statement}
 use Rattle.reader.proofs.node_row.Tie as tie
-use Rattle.reader.proofs.node_row.Reads as reads
-use Rattle.reader.proofs.node_row.Lts as lts
-use Rattle.field.proofs.take.Reads as take-reads
-use Rattle.reader.proofs.last_of.Reads as last-of-reads
-use Rattle.reader.proofs.operation_of.Reads as operation-of-reads
 
 last-of-requires : tie.Need-last-of-requires
 last-of-requires c κs = search needs

@@ -1,11 +1,10 @@
+-- `reader::operation_of` meets its contract.
+-- Assumes nothing.
 use Rattle.reader.proofs.Laws.{tests}
-use borrow.Author.Tests.{eq-eqb, ne-eqb}
 use Rattle.lists.specs.Pick.{pick}
 use Rattle.reader.specs.Rows.{operationOf}
 use Rattle.reader.proofs.operation_of.Statement.{statement}
 use Rattle.reader.proofs.operation_of.Tie as tie
-use Rattle.reader.proofs.operation_of.Reads as reads
-use Rattle.reader.proofs.operation_of.Lts as lts
 
 returns : tie.Need-returns
 unfolding operationOf pick

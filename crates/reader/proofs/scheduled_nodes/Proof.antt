@@ -1,10 +1,10 @@
+-- `reader::scheduled_nodes` meets its contract.
+-- Assumes nothing.
 use Rattle.lists.specs.Pick.{pick}
 use Rattle.reader.proofs.Laws.{tests}
 use Rattle.form.specs.Places.{scheduledOf}
 use Rattle.reader.proofs.scheduled_nodes.Statement.{statement}
 use Rattle.reader.proofs.scheduled_nodes.Tie as tie
-use Rattle.reader.proofs.scheduled_nodes.Reads as reads
-use Rattle.reader.proofs.scheduled_nodes.Lts as lts
 
 returns : tie.Need-returns
 unfolding scheduledOf pick

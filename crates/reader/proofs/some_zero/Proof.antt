@@ -1,14 +1,13 @@
-use mathlib.Core.Path.{_≡_, refl, sym, _∙_}
-use Prim.Native.Nat.{ℕ, suc, _≤_, _<_, _+_, _-_}
+-- `reader::some_zero` meets its contract.
+-- Assumes nothing.
+use mathlib.Core.Path.{_≡_}
+use Prim.Native.Nat.{_≤_, _-_}
 use native.Mathlib.Nat.{sub-zero}
-use native.Mathlib.Omega.{arith}
 use borrow.Author.Needs.{needs}
 use Rattle.reader.specs.Reading.{zeroFrom, someZero}
 use Rattle.reader.proofs.Laws.{zero-here, zero-later, zero-none}
 use Rattle.reader.proofs.some_zero.Statement.{statement}
 use Rattle.reader.proofs.some_zero.Tie as tie
-use Rattle.reader.proofs.some_zero.Reads as reads
-use Rattle.reader.proofs.some_zero.Lts as lts
 
 abbrev Inv-loop : tie.InvT-loop
 Inv-loop nodes retiming end i₀ i = (i ≤ end) × (zeroFrom (end - i) i retiming ≡ someZero end retiming)

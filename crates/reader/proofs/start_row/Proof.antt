@@ -1,12 +1,10 @@
+-- `reader::start_row` meets its contract.
+-- Assumes nothing.
 use native.Mathlib.Omega.{arith}
 use Rattle.reader.specs.Rows.{startAt}
 use borrow.Author.Needs.{needs}
 use Rattle.reader.proofs.start_row.Statement.{statement}
 use Rattle.reader.proofs.start_row.Tie as tie
-use Rattle.reader.proofs.start_row.Reads as reads
-use Rattle.reader.proofs.start_row.Lts as lts
-use Rattle.field.proofs.take.Reads as take-reads
-use Rattle.reader.proofs.last_start.Reads as last-start-reads
 
 last-start-requires : tie.Need-last-start-requires
 last-start-requires c κs = search needs

@@ -24,15 +24,15 @@ returns c = entry-unread _ _ _ _ _ _ (c .before .before .before .read .ensures) 
 
 first-plan-requires : tie.Need-first-plan-requires
 first-plan-requires c κs =
-    let r = c .before .before .before in
+    let r = c .before .before in
     let a = r .before .before .before .args in
     form-good firstAsked firstForm unturned (a .«record» .now) (a .out .now) _ (r .read .ensures) (λ i. omega (arith, r .before .before .shared-slice-known .given i))
-    (sym (c .before .before .is-fine .ensures) ∙ not-false _ (c .before .if1 .left))
+    (sym (c .before .is-fine .ensures) ∙ not-false _ (c .if1 .left))
 
 write-plan-requires : tie.Need-write-plan-requires
 write-plan-requires c κs =
     let p = c .before in
-    let i = p .before .before in
+    let i = p .before in
     let r = i .before .before in
     let a = r .before .before .before .args in
     plan-taken firstAsked firstForm unturned (a .«record» .now) (a .out .now) _ (r .read .ensures) (λ i. omega (arith, r .before .before .shared-slice-known .given i))
@@ -45,7 +45,7 @@ returns-2 : tie.Need-returns-2
 returns-2 c =
     let w = c .before .before in
     let p = w .before .before in
-    let i = p .before .before in
+    let i = p .before in
     let r = i .before .before in
     let a = r .before .before .before .args in
     entry-planned firstAsked firstForm unturned (a .«record» .now) (a .out .now) _ (r .read .ensures) (λ i. omega (arith, r .before .before .shared-slice-known .given i))

@@ -1,8 +1,7 @@
 -- `rotation::first_plan` meets its contract: the knot, else the first schedule.
 -- Assumes nothing.
 use native.Mathlib.Omega.{arith}
-use borrow.Author.Needs.{needs}
-use Rattle.knots.specs.Found.{ends-form, told-form}
+use Rattle.tables.specs.Edges.{ends-form, told-form}
 use Rattle.rotation.proofs.Entries.{first-knot, first-planned}
 use Rattle.rotation.proofs.first_plan.Statement.{statement}
 use Rattle.rotation.proofs.first_plan.Tie as tie

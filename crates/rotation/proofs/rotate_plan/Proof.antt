@@ -1,59 +1,69 @@
--- `rotation::rotate_plan` meets its contract: Size, then Long, else the form rotated.
+-- `rotation::rotate_plan` meets its contract: what the judge refuses, Size, then Long, else the form rotated.
 -- Assumes nothing.
 use mathlib.Core.Path.{refl, sym, _∙_}
 use native.Mathlib.Omega.{arith}
 use borrow.Author.Needs.{needs}
 use borrow.Author.Tests.{not-true, not-false}
-use Rattle.rotation.proofs.Rotates.{rotate-legal, rotate-size, rotate-too-long, rotate-planned}
+use Rattle.tables.specs.Lent.{lent-form}
+use Rattle.rotation.proofs.Rotates.{judge-accepted, accepted-alone, rotate-unjudged, rotate-legal, rotate-size, rotate-too-long, rotate-planned}
 use Rattle.rotation.proofs.rotate_plan.Statement.{statement}
 use Rattle.rotation.proofs.rotate_plan.Tie as tie
+
+times-of-requires : tie.Need-times-of-requires
+times-of-requires c κs = search needs
+
+judge-tables-requires : tie.Need-judge-tables-requires
+judge-tables-requires c κs = (c .before .before .before .before .before .args .t1, lent-form (c .before .before .before .before .before .args .t1) _ (c .before .before .before .before .before .pre) (c .before .before .before .before .times-of .ensures))
+
+is-fine-requires : tie.Need-is-fine-requires
+is-fine-requires c κs = search needs
+
+returns : tie.Need-returns
+returns c = rotate-unjudged _ _ (c .before .before .before .judge-tables .ensures _ (lent-form (c .before .before .before .before .before .before .before .before .before .args .t1) _ (c .before .before .before .before .before .before .before .before .before .pre) (c .before .before .before .before .before .before .before .before .times-of .ensures))) _ (sym (c .before .is-fine .ensures) ∙ not-true _ (c .if1 .taken))
 
 turns-by-requires : tie.Need-turns-by-requires
 turns-by-requires c κs = search needs
 
-none-requires : tie.Need-none-requires
-none-requires c κs = search needs
-
-returns : tie.Need-returns
-returns c =
-    let a = c .before .before .before .pre in
-    rotate-size _ (a .0) _ (a .1) (sym (c .before .before .turns-by .ensures) ∙ not-true _ (c .before .if1 .taken)) _ refl _ (c .none .ensures)
+returns-2 : tie.Need-returns-2
+returns-2 c =
+    let q = (c .before .before .before .before .before .judge-tables .ensures _ (lent-form (c .before .before .before .before .before .before .before .before .before .before .before .args .t1) _ (c .before .before .before .before .before .before .before .before .before .before .before .pre) (c .before .before .before .before .before .before .before .before .before .before .times-of .ensures))) in
+    let w = c .before .before .before .before .before .before .before .before .before .before .before .pre in
+    let fine = sym (c .before .before .before .is-fine .ensures) ∙ not-false _ (c .before .before .if1 .left) in
+    rotate-size _ w _ (judge-accepted _ _ q w fine) (sym (c .before .turns-by .ensures) ∙ not-true _ (c .if2 .taken)) _ refl _ (accepted-alone _ _ q fine)
 
 rotate-form-requires : tie.Need-rotate-form-requires
 rotate-form-requires c κs =
-    let a = c .before .before .pre in
-    let l = rotate-legal _ (a .0) _ (a .1) (sym (c .before .turns-by .ensures) ∙ not-false _ (c .if1 .left)) in
-    ((a .0, l .0), (l .1, l .2))
-
-none-requires-2 : tie.Need-none-requires-2
-none-requires-2 c κs = search needs
-
-returns-2 : tie.Need-returns-2
-returns-2 c =
-    let r = c .before .before .before in
-    let a = r .before .before .before .pre in
-    rotate-too-long _ (a .0) _ (a .1) (sym (r .before .before .turns-by .ensures) ∙ not-false _ (r .before .if1 .left)) _ (r .rotate-form .ensures) _ (c .none2 .ensures)
-    (omega (arith, c .before .if2 .taken))
-
-none-requires-3 : tie.Need-none-requires-3
-none-requires-3 c κs = search needs
+    let w = c .before .before .before .before .before .before .before .before .before .before .before .pre in
+    let accepted = judge-accepted _ _ (c .before .before .before .before .before .judge-tables .ensures _ (lent-form (c .before .before .before .before .before .before .before .before .before .before .before .args .t1) _ (c .before .before .before .before .before .before .before .before .before .before .before .pre) (c .before .before .before .before .before .before .before .before .before .before .times-of .ensures))) w (sym (c .before .before .before .is-fine .ensures) ∙ not-false _ (c .before .before .if1 .left)) in
+    let l = rotate-legal _ w _ accepted (sym (c .before .turns-by .ensures) ∙ not-false _ (c .if2 .left)) in
+    ((w, l .0), (l .1, l .2))
 
 returns-3 : tie.Need-returns-3
 returns-3 c =
-    let r = c .before .before .before in
-    let a = r .before .before .before .pre in
-    rotate-planned _ (a .0) _ (a .1) (sym (r .before .before .turns-by .ensures) ∙ not-false _ (r .before .if1 .left)) _ (r .rotate-form .ensures) _ (c .none3 .ensures)
-    (omega (arith, c .before .if2 .left))
+    let q = (c .before .before .before .before .before .before .before .before .judge-tables .ensures _ (lent-form (c .before .before .before .before .before .before .before .before .before .before .before .before .before .before .args .t1) _ (c .before .before .before .before .before .before .before .before .before .before .before .before .before .before .pre) (c .before .before .before .before .before .before .before .before .before .before .before .before .before .times-of .ensures))) in
+    let w = c .before .before .before .before .before .before .before .before .before .before .before .before .before .before .pre in
+    let fine = sym (c .before .before .before .before .before .before .is-fine .ensures) ∙ not-false _ (c .before .before .before .before .before .if1 .left) in
+    rotate-too-long _ w _ (judge-accepted _ _ q w fine) (sym (c .before .before .before .before .turns-by .ensures) ∙ not-false _ (c .before .before .before .if2 .left)) _ (c .before .before .rotate-form .ensures) _ (accepted-alone _ _ q fine)
+    (omega (arith, c .if3 .taken))
+
+returns-4 : tie.Need-returns-4
+returns-4 c =
+    let q = (c .before .before .before .before .before .before .before .before .judge-tables .ensures _ (lent-form (c .before .before .before .before .before .before .before .before .before .before .before .before .before .before .args .t1) _ (c .before .before .before .before .before .before .before .before .before .before .before .before .before .before .pre) (c .before .before .before .before .before .before .before .before .before .before .before .before .before .times-of .ensures))) in
+    let w = c .before .before .before .before .before .before .before .before .before .before .before .before .before .before .pre in
+    let fine = sym (c .before .before .before .before .before .before .is-fine .ensures) ∙ not-false _ (c .before .before .before .before .before .if1 .left) in
+    rotate-planned _ w _ (judge-accepted _ _ q w fine) (sym (c .before .before .before .before .turns-by .ensures) ∙ not-false _ (c .before .before .before .if2 .left)) _ (c .before .before .rotate-form .ensures) _ (accepted-alone _ _ q fine)
+    (omega (arith, c .if3 .left))
 
 pub rotate-plan-spec : {M : Type 1} → statement M
 rotate-plan-spec =
     tie.close
     (tie.spec
-    turns-by-requires
-    none-requires
+    times-of-requires
+    judge-tables-requires
+    is-fine-requires
     returns
-    rotate-form-requires
-    none-requires-2
+    turns-by-requires
     returns-2
-    none-requires-3
-    returns-3)
+    rotate-form-requires
+    returns-3
+    returns-4)

@@ -1,8 +1,8 @@
+-- `rotation::turns_by` meets its contract.
+-- Assumes nothing.
 use Rattle.rotation.proofs.Rotates.{turns-zero, turns-some}
 use Rattle.rotation.proofs.turns_by.Statement.{statement}
 use Rattle.rotation.proofs.turns_by.Tie as tie
-use Rattle.rotation.proofs.turns_by.Reads as reads
-use Rattle.rotation.proofs.turns_by.Lts as lts
 
 -- src/lib.rt:237:9
 returns : tie.Need-returns

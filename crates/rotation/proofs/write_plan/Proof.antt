@@ -15,7 +15,7 @@ returns c = plan-refused _ _ (sym (c .before .is-fine .ensures) ∙ not-true _ (
 
 write-taken-requires : tie.Need-write-taken-requires
 write-taken-requires c κs =
-    let i = c .before .before in
+    let i = c .before in
     i .before .before .before .before .pre (sym (i .before .is-fine .ensures) ∙ not-false _ (i .if1 .left))
 
 is-fine-requires-2 : tie.Need-is-fine-requires-2
@@ -31,7 +31,7 @@ returns-2 : tie.Need-returns-2
 returns-2 c =
     let f = c .before in
     let w = f .before .before .before in
-    let i = w .before .before .before in
+    let i = w .before .before in
     plan-written _ _ (sym (i .before .is-fine .ensures) ∙ not-false _ (i .if1 .left)) _ _ (w .write-taken .ensures .0) (w .write-taken .ensures .1) _ (f .is-fine2 .ensures) _ (c .told .ensures)
 
 pub write-plan-spec : {M : Type 1} → statement M

@@ -1,6 +1,5 @@
 -- `rsk_c::rsk_floor` meets its contract: the list is that of the floor's answer.
 -- Assumes nothing.
-use mathlib.Core.Path.{_∙_}
 use Rattle.rsk_c.proofs.Filled.{filled}
 use borrow.Author.Needs.{needs}
 use Rattle.rsk_c.proofs.rsk_floor.Statement.{statement}

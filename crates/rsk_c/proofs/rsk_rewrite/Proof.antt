@@ -31,9 +31,9 @@ returns c =
 
 write-taken-requires : tie.Need-write-taken-requires
 write-taken-requires c κs =
-    let r = c .before .before .before .before in
+    let r = c .before .before .before in
     taken _ (r .before .before .before .args .out .now) _ (r .read .ensures) (λ i. omega (arith, r .before .before .shared-slice-known .given i))
-    (sym (c .before .before .before .is-fine .ensures) ∙ not-false _ (c .before .before .if1 .left))
+    (sym (c .before .before .is-fine .ensures) ∙ not-false _ (c .before .if1 .left))
 
 numbers-of-requires-2 : tie.Need-numbers-of-requires-2
 numbers-of-requires-2 c κs = search needs
@@ -50,7 +50,7 @@ same-length c = search needs
 returns-2 : tie.Need-returns-2
 returns-2 c =
     let o = c .before .before .before .before .before .before in
-    let w = passed _ _ _ (c .before .before .before .before .before .before .before .before .before .before .before .read .ensures) (sym (c .before .before .before .before .before .before .before .before .before .before .is-fine .ensures) ∙ not-false _ (c .before .before .before .before .before .before .before .before .before .if1 .left)) _ _ (o .write-taken .ensures .0) (o .write-taken .ensures .1) in
+    let w = passed _ _ _ (c .before .before .before .before .before .before .before .before .before .before .read .ensures) (sym (c .before .before .before .before .before .before .before .before .before .is-fine .ensures) ∙ not-false _ (c .before .before .before .before .before .before .before .before .if1 .left)) _ _ (o .write-taken .ensures .0) (o .write-taken .ensures .1) in
     let a = answered _ _ _ _ _ _ _ (w .0) (c .before .before .numbers-of2 .ensures) (c .before .none2 .ensures) (c .fill2 .ensures .0) (c .fill2 .ensures .1) in
     (a .0, (w .1, a .1))
 

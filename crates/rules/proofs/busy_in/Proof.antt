@@ -6,7 +6,7 @@ use Prim.Native.Nat.{_≤_, _-_}
 use native.Mathlib.Omega.{arith}
 use borrow.Author.Needs.{needs}
 use Rattle.lists.specs.Pick.{pick}
-use Rattle.rules.specs.Flat.{busyIn}
+use Rattle.rules.specs.Busy.{busyIn}
 use Rattle.rules.proofs.Laws.{busy-none, busy-more}
 use Rattle.rules.proofs.busy_in.Statement.{statement}
 use Rattle.rules.proofs.busy_in.Tie as tie

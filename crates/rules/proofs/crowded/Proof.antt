@@ -7,32 +7,26 @@ use Prim.Native.Nat.{_≤_, _<_, _-_}
 use native.Mathlib.Omega.{arith}
 use lib.ListN.{getD}
 use borrow.Author.Needs.{needs}
-use Rattle.rules.proofs.Lowest.{spotOf, Lowest, kind-in, crowded-yes, crowded-no, lowest-none, lowest-here, lowest-past, lowest-all, lowest-units, lowest-fine}
+use Rattle.legal.specs.Loop.{Loop, Pair}
+use Rattle.tables.specs.Times.{Timed}
+use Rattle.rules.proofs.Lowest.{spotOf, Lowest, crowded-yes, crowded-no, lowest-none, lowest-here, lowest-past, lowest-all, lowest-units, lowest-fine}
 use Rattle.rules.proofs.crowded.Statement.{statement}
 use Rattle.rules.proofs.crowded.Tie as tie
 
 abbrev Inv-loop : tie.InvT-loop
-Inv-loop form table past lowest₀ v₀ v-end lowest v = (v ≤ form .nodes) × Lowest form v lowest
+Inv-loop times past lowest₀ v₀ v-end lowest v = (v ≤ times .nodes) × ((g : Loop) (p : Pair) → Timed g p times → Lowest g p v lowest)
 
 abbrev μ-loop : tie.MeasureT-loop
-μ-loop form table past lowest₀ v₀ v-end lowest v = form .nodes - v
-
-flatten-requires : tie.Need-flatten-requires Inv-loop μ-loop
-flatten-requires c κs = search needs
-
-add-spot : tie.Need-add-spot Inv-loop μ-loop
-add-spot c = search needs
+μ-loop times past lowest₀ v₀ v-end lowest v = times .nodes - v
 
 spot-requires : tie.Need-spot-requires Inv-loop μ-loop
 spot-requires c κs = search needs
 
-kind-below : (c : tie.In-loop Inv-loop μ-loop) → getD (c .before .before .before .flatten .result .kind) (c .before .loop .v) 0 < 4
-kind-below c =
-    let s = c .before .before .before in
-    kind-in _ _ _ _ (s .before .pre .0) (s .flatten .ensures) (c .loop-test .taken)
+kind-below : (c : tie.In-loop Inv-loop μ-loop) → getD (c .before .before .before .args .t1 .kind) (c .before .loop .v) 0 < 4
+kind-below c = c .before .before .before .pre .class-in (c .before .loop .v) (c .loop-test .taken)
 
 loop-holds : tie.Need-loop-holds Inv-loop μ-loop
-loop-holds c = (search needs, lowest-none (c .before .before .args .t1) (c .spot .result) (omega (arith, c .spot .ensures .0)))
+loop-holds c = (search needs, λ g p timed. lowest-none g p (c .spot .result) (omega (arith, c .spot .ensures .0, timed .is-length)))
 
 cast-i : tie.Need-cast-i Inv-loop μ-loop
 cast-i c = search needs
@@ -56,7 +50,7 @@ mul-class : tie.Need-mul-class Inv-loop μ-loop
 mul-class c = omega (arith, kind-below (c .before .before .before .before))
 
 element-copy-out-class : tie.Need-element-copy-out-class Inv-loop μ-loop
-element-copy-out-class c = omega (arith, kind-below (c .before .before .before .before))
+element-copy-out-class c = kind-below (c .before .before .before .before)
 
 hold-of-requires : tie.Need-hold-of-requires Inv-loop μ-loop
 hold-of-requires c κs = search needs
@@ -73,29 +67,27 @@ loop-less c = search needs
 loop-again : tie.Need-loop-again Inv-loop μ-loop
 loop-again c =
     let t = c .before .before .before .before in
-    let flat = t .before .before .before .flatten .ensures in
-    let s = t .before .loop .inv .1 in
+    let times = t .before .before .before .args .t1 in
     let v = t .before .loop .v in
-    let l = t .loop-test .taken in
-    let is-here : c .before .spot2 .result ≡ spotOf (t .before .before .before .before .args .t1) v = omega (arith, c .before .spot2 .ensures .0, flat .kind v l, flat .start v l) in (
+    let l = t .loop-test .taken in (
       search needs,
-      ⊎-elim
-          (λ w. lowest-here _ _ _ _ s l (crowded-yes _ _ _ _ _ _ flat l (w .5 .ensures) (w .6 .ensures) (w .8 .taken)) (rw is-here at (w .0 .taken)) (w .9 ∙ is-here))
+      λ g p timed.
+          let s = t .before .loop .inv .1 g p timed in
+          let is-here : c .before .spot2 .result ≡ spotOf g p v = omega (arith, c .before .spot2 .ensures .0, timed .runs-on v l, timed .starts v l) in
+          let within : v < g .graph .nodes = omega (arith, timed .all-nodes) in
+          ⊎-elim
+          (λ w. lowest-here g p _ _ _ s within (crowded-yes g p times _ _ _ timed l (w .5 .ensures) (w .6 .ensures) (w .8 .taken)) (rw is-here at (w .0 .taken)) (w .9 ∙ is-here))
           (⊎-elim
-          (λ w. lowest-past _ _ _ _ s (λ e. absurd (true≢false (sym e ∙ crowded-no _ _ _ _ _ _ flat l (w .5 .ensures) (w .6 .ensures) (w .8 .left)))) (w .9))
-          (λ w. lowest-past _ _ _ _ s (λ e. rw is-here at (w .0 .left)) (w .1)))
+          (λ w. lowest-past g p _ _ _ s (λ e. absurd (true≢false (sym e ∙ crowded-no g p times _ _ _ timed l (w .5 .ensures) (w .6 .ensures) (w .8 .left)))) (w .9))
+          (λ w. lowest-past g p _ _ _ s (λ e. rw is-here at (w .0 .left)) (w .1)))
           (c .if1 .came),
     )
 
 returns : tie.Need-returns Inv-loop μ-loop
-returns c =
-    let l = c .before .before in
-    lowest-units _ (l .before .before .before .pre .0) (l .before .before .before .pre .1) _ (lowest-all _ _ _ _ (c .before .loop-test .left) (l .loop .inv .1)) (omega (arith, l .before .spot .ensures .0, c .if3 .taken))
+returns c = λ g p timed seated. lowest-units g p seated _ (lowest-all g p _ _ _ (omega (arith, timed .all-nodes)) (c .before .before .loop .inv .1 g p timed)) (omega (arith, c .before .before .before .spot .ensures .0, c .if3 .taken, timed .is-length))
 
 returns-2 : tie.Need-returns-2 Inv-loop μ-loop
-returns-2 c =
-    let l = c .before .before in
-    lowest-fine _ (l .before .before .before .pre .0) (l .before .before .before .pre .1) _ (lowest-all _ _ _ _ (c .before .loop-test .left) (l .loop .inv .1)) (omega (arith, l .before .spot .ensures .0, c .if3 .left))
+returns-2 c = λ g p timed seated. lowest-fine g p seated _ (lowest-all g p _ _ _ (omega (arith, timed .all-nodes)) (c .before .before .loop .inv .1 g p timed)) (omega (arith, c .before .before .before .spot .ensures .0, c .if3 .left, timed .is-length))
 
 pub crowded-spec : {M : Type 1} → statement M
 crowded-spec =
@@ -103,8 +95,6 @@ crowded-spec =
     (tie.spec
     Inv-loop
     μ-loop
-    flatten-requires
-    add-spot
     spot-requires
     loop-holds
     cast-i

@@ -1,7 +1,7 @@
 -- `rules::occupies` meets its contract.
 -- Assumes nothing.
 use borrow.Author.Needs.{needs}
-use Rattle.rules.specs.Flat.{occupiesAt}
+use Rattle.rules.specs.Busy.{occupiesAt}
 use Rattle.rules.proofs.Laws.{tests}
 use Rattle.rules.proofs.occupies.Statement.{statement}
 use Rattle.rules.proofs.occupies.Tie as tie

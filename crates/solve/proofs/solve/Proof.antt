@@ -1,20 +1,10 @@
+-- `solve::solve` meets its contract.
+-- Assumes nothing.
 use Rattle.system.specs.System.{systemOf}
-use mathlib.Core.Path.{_≡_, refl, sym, ap, _∙_}
-use mathlib.Core.Bool.{true, false, true≢false}
-use mathlib.Core.Logic.{_⊎_, inl, inr, ⊎-elim}
-use Prim.Native.Nat.{ℕ, zero, suc, _<_}
-use native.Mathlib.Omega.{arith}
-use Rattle.lists.specs.Place.{zeros-at}
-use Rattle.system.specs.declared.Settled.{Settled}
 use Rattle.solve.proofs.Laws.{when-settled, when-unsettled}
 use borrow.Author.Needs.{needs}
 use Rattle.solve.proofs.solve.Statement.{statement}
 use Rattle.solve.proofs.solve.Tie as tie
-use Rattle.solve.proofs.solve.Reads as reads
-use Rattle.solve.proofs.solve.Lts as lts
-use Rattle.answer.proofs.Cycle.none.Reads as none-reads
-use Rattle.cycle.proofs.shortest_cycle.Reads as shortest-cycle-reads
-use Rattle.system.proofs.settle.Reads as settle-reads
 
 settle-requires : tie.Need-settle-requires
 settle-requires c κs = search needs

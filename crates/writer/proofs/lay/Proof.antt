@@ -1,17 +1,10 @@
+-- `writer::lay` meets its contract: the header, then each table's rows behind the last.
+-- Assumes nothing.
 use native.Mathlib.Omega.{arith}
 use Rattle.writer.proofs.Laws.{whole}
 use borrow.Author.Needs.{needs}
 use Rattle.writer.proofs.lay.Statement.{statement}
 use Rattle.writer.proofs.lay.Tie as tie
-use Rattle.writer.proofs.lay.Reads as reads
-use Rattle.writer.proofs.lay.Lts as lts
-use Rattle.writer.proofs.put_classes.Reads as put-classes-reads
-use Rattle.writer.proofs.put_edges.Reads as put-edges-reads
-use Rattle.writer.proofs.put_header.Reads as put-header-reads
-use Rattle.writer.proofs.put_nodes.Reads as put-nodes-reads
-use Rattle.writer.proofs.put_starts.Reads as put-starts-reads
-use Rattle.writer.proofs.rows_of.Reads as rows-of-reads
-use Rattle.writer.proofs.scheduled_of.Reads as scheduled-of-reads
 
 put-header-requires : tie.Need-put-header-requires
 put-header-requires c κs = search needs
@@ -53,10 +46,10 @@ returns : tie.Need-returns
 returns c =
     let scheduled = c .before .before .before in
     let edges = scheduled .before in
-    let nodes = edges .before .before .before .before .before .before .before in
-    let classes = nodes .before .before .before in
-    let header = classes .before .before .before in
-    let edge-rows = edges .before .before .before .before .before .before in (
+    let nodes = edges .before .before .before .before .before .before in
+    let classes = nodes .before .before .before .before in
+    let header = classes .before .before .before .before in
+    let edge-rows = edges .before .before .before .before .before in (
       omega (arith, header .put-header .ensures .0, classes .put-classes .ensures .0, classes .before .rows-of .ensures .1, nodes .put-nodes .ensures .0, nodes .before .rows-of2 .ensures .1, edges .put-edges .ensures .0, edge-rows .rows-of3 .ensures .1, c .put-starts .ensures .0, c .before .rows-of4 .ensures .1),
       whole _ _ _ _ _ _ _ _ _ _ _ _ _ _ _ _ (header .put-header .ensures .1)
           (classes .put-classes .ensures .1) (classes .before .rows-of .ensures .0)

@@ -1,6 +1,5 @@
 -- `writer::put` meets its contract: Room, or all of the bytes.
 -- Assumes nothing.
-use mathlib.Core.Path.{refl}
 use native.Mathlib.Omega.{arith}
 use borrow.Author.Needs.{needs}
 use Rattle.writer.proofs.Laws.{cramped, fits}

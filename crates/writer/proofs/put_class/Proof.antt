@@ -1,11 +1,11 @@
+-- `writer::put_class` meets its contract.
+-- Assumes nothing.
 use mathlib.Core.Path.{refl}
 use native.Mathlib.Numerals.{unary-clauses}
 use Rattle.writer.specs.Layout.{classBytes}
 use borrow.Author.Needs.{needs}
 use Rattle.writer.proofs.put_class.Statement.{statement}
 use Rattle.writer.proofs.put_class.Tie as tie
-use Rattle.writer.proofs.put_class.Reads as reads
-use Rattle.writer.proofs.put_class.Lts as lts
 
 element-write-out : tie.Need-element-write-out
 element-write-out c = search needs

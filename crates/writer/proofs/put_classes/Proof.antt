@@ -1,3 +1,5 @@
+-- `writer::put_classes` meets its contract.
+-- Assumes nothing.
 use mathlib.Core.Path.{_≡_}
 use Prim.Native.Nat.{_≤_, _+_, _*_, _-_}
 use native.Mathlib.Omega.{arith}
@@ -9,9 +11,6 @@ use Rattle.writer.specs.Laid.{Laid}
 use Rattle.writer.proofs.Laws.{nothing, row-more}
 use Rattle.writer.proofs.put_classes.Statement.{statement}
 use Rattle.writer.proofs.put_classes.Tie as tie
-use Rattle.writer.proofs.put_classes.Reads as reads
-use Rattle.writer.proofs.put_classes.Lts as lts
-use Rattle.writer.proofs.put_class.Reads as put-class-reads
 
 abbrev Inv-loop : tie.InvT-loop
 Inv-loop out₀ at count class next₀ i₀ out next i = (i ≤ count) × (next ≡ at + 3 * i) × Laid out₀ at (rows (λ k. classBytes (getD class k noClass)) i) out next

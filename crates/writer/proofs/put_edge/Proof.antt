@@ -1,11 +1,11 @@
+-- `writer::put_edge` meets its contract.
+-- Assumes nothing.
 use mathlib.Core.Path.{refl}
 use native.Mathlib.Numerals.{unary-clauses}
 use Rattle.writer.specs.Layout.{edgeBytes}
 use borrow.Author.Needs.{needs}
 use Rattle.writer.proofs.put_edge.Statement.{statement}
 use Rattle.writer.proofs.put_edge.Tie as tie
-use Rattle.writer.proofs.put_edge.Reads as reads
-use Rattle.writer.proofs.put_edge.Lts as lts
 
 element-write-out : tie.Need-element-write-out
 element-write-out c = search needs

@@ -1,3 +1,5 @@
+-- `writer::put_edges` meets its contract.
+-- Assumes nothing.
 use mathlib.Core.Path.{_≡_}
 use Prim.Native.Nat.{_≤_, _+_, _*_, _-_}
 use native.Mathlib.Omega.{arith}
@@ -8,9 +10,6 @@ use Rattle.writer.specs.Laid.{Laid}
 use Rattle.writer.proofs.Laws.{nothing, row-more}
 use Rattle.writer.proofs.put_edges.Statement.{statement}
 use Rattle.writer.proofs.put_edges.Tie as tie
-use Rattle.writer.proofs.put_edges.Reads as reads
-use Rattle.writer.proofs.put_edges.Lts as lts
-use Rattle.writer.proofs.put_edge.Reads as put-edge-reads
 
 abbrev Inv-loop : tie.InvT-loop
 Inv-loop out₀ at from to delays count next₀ i₀ out next i = (i ≤ count) × (next ≡ at + 3 * i) × Laid out₀ at (rows (λ k. edgeBytes (record { from = getD from k 0; to = getD to k 0; delays = getD delays k 0 })) i) out next

@@ -1,11 +1,11 @@
+-- `writer::put_header` meets its contract.
+-- Assumes nothing.
 use mathlib.Core.Path.{refl}
 use Rattle.field.specs.Number.{bytesOf}
-use Rattle.writer.specs.Layout.{headerBytes}
+use Rattle.writer.specs.Layout.{countBytes}
 use borrow.Author.Needs.{needs}
 use Rattle.writer.proofs.put_header.Statement.{statement}
 use Rattle.writer.proofs.put_header.Tie as tie
-use Rattle.writer.proofs.put_header.Reads as reads
-use Rattle.writer.proofs.put_header.Lts as lts
 
 element-write-out : tie.Need-element-write-out
 element-write-out c = search needs
@@ -53,7 +53,7 @@ element-write-out-11 : tie.Need-element-write-out-11
 element-write-out-11 c = search needs
 
 returns : tie.Need-returns
-unfolding headerBytes bytesOf
+unfolding countBytes bytesOf
 returns c = (search needs, record { is = refl; ends = refl })
 
 pub put-header-spec : {M : Type 1} → statement M

@@ -1,3 +1,5 @@
+-- `writer::put_node` meets its contract.
+-- Assumes nothing.
 use mathlib.Core.Path.{refl}
 use native.Mathlib.Numerals.{unary-clauses}
 use Rattle.field.specs.Number.{bytesOf}
@@ -5,10 +7,6 @@ use Rattle.writer.specs.Layout.{nodeBytes}
 use borrow.Author.Needs.{needs}
 use Rattle.writer.proofs.put_node.Statement.{statement}
 use Rattle.writer.proofs.put_node.Tie as tie
-use Rattle.writer.proofs.put_node.Reads as reads
-use Rattle.writer.proofs.put_node.Lts as lts
-use Rattle.writer.proofs.code_of.Reads as code-of-reads
-use Rattle.writer.proofs.constant_of.Reads as constant-of-reads
 
 constant-of-requires : tie.Need-constant-of-requires
 constant-of-requires c κs = search needs

@@ -1,3 +1,5 @@
+-- `writer::put_nodes` meets its contract.
+-- Assumes nothing.
 use mathlib.Core.Path.{_≡_}
 use Prim.Native.Nat.{_≤_, _+_, _*_, _-_}
 use native.Mathlib.Omega.{arith}
@@ -9,9 +11,6 @@ use Rattle.writer.specs.Laid.{Laid}
 use Rattle.writer.proofs.Laws.{nothing, row-more}
 use Rattle.writer.proofs.put_nodes.Statement.{statement}
 use Rattle.writer.proofs.put_nodes.Tie as tie
-use Rattle.writer.proofs.put_nodes.Reads as reads
-use Rattle.writer.proofs.put_nodes.Lts as lts
-use Rattle.writer.proofs.put_node.Reads as put-node-reads
 
 abbrev Inv-loop : tie.InvT-loop
 Inv-loop out₀ at count node next₀ i₀ out next i = (i ≤ count) × (next ≡ at + 6 * i) × Laid out₀ at (rows (λ k. nodeBytes (getD node k noNode)) i) out next

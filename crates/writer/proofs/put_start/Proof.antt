@@ -1,3 +1,5 @@
+-- `writer::put_start` meets its contract.
+-- Assumes nothing.
 use mathlib.Core.Path.{refl}
 use native.Mathlib.Numerals.{unary-clauses}
 use Rattle.field.specs.Number.{bytesOf}
@@ -5,8 +7,6 @@ use Rattle.writer.specs.Layout.{startBytes}
 use borrow.Author.Needs.{needs}
 use Rattle.writer.proofs.put_start.Statement.{statement}
 use Rattle.writer.proofs.put_start.Tie as tie
-use Rattle.writer.proofs.put_start.Reads as reads
-use Rattle.writer.proofs.put_start.Lts as lts
 
 cast-out : tie.Need-cast-out
 cast-out c = search needs

@@ -1,3 +1,5 @@
+-- `writer::put_starts` meets its contract.
+-- Assumes nothing.
 use mathlib.Core.Path.{_≡_}
 use Prim.Native.Nat.{_≤_, _+_, _*_, _-_}
 use native.Mathlib.Omega.{arith}
@@ -9,9 +11,6 @@ use Rattle.writer.specs.Laid.{Laid}
 use Rattle.writer.proofs.Laws.{nothing, row-more}
 use Rattle.writer.proofs.put_starts.Statement.{statement}
 use Rattle.writer.proofs.put_starts.Tie as tie
-use Rattle.writer.proofs.put_starts.Reads as reads
-use Rattle.writer.proofs.put_starts.Lts as lts
-use Rattle.writer.proofs.put_start.Reads as put-start-reads
 
 abbrev Inv-loop : tie.InvT-loop
 Inv-loop out₀ at count start retiming next₀ i₀ out next i = (i ≤ count) × (next ≡ at + 3 * i) × Laid out₀ at (rows (λ k. startBytes (getD start k noStep .0) (getD retiming k 0)) i) out next

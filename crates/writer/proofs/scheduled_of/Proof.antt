@@ -1,10 +1,10 @@
+-- `writer::scheduled_of` meets its contract.
+-- Assumes nothing.
 use Rattle.lists.specs.Pick.{pick}
 use Rattle.reader.proofs.Laws.{tests}
 use Rattle.form.specs.Places.{scheduledOf}
 use Rattle.writer.proofs.scheduled_of.Statement.{statement}
 use Rattle.writer.proofs.scheduled_of.Tie as tie
-use Rattle.writer.proofs.scheduled_of.Reads as reads
-use Rattle.writer.proofs.scheduled_of.Lts as lts
 
 returns : tie.Need-returns
 unfolding scheduledOf pick

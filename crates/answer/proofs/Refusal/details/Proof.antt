@@ -1,11 +1,10 @@
+-- `answer::Refusal::details` meets its contract.
+-- Assumes nothing.
 use mathlib.Core.Path.{sym, ap, _∙_}
 use Rattle.answer.specs.Refused.{detailsOf}
 use borrow.Author.Needs.{needs}
 use Rattle.answer.proofs.Refusal.details.Statement.{statement}
 use Rattle.answer.proofs.Refusal.details.Tie as tie
-use Rattle.answer.proofs.Refusal.details.Reads as reads
-use Rattle.answer.proofs.Refusal.details.Lts as lts
-use Rattle.answer.proofs.numbers_of.Reads as numbers-of-reads
 
 enum-told : tie.Need-enum-told
 enum-told c = search needs

@@ -1,12 +1,11 @@
+-- `answer::Refusal::is_fine` meets its contract.
+-- Assumes nothing.
 use mathlib.Core.Path.{ap}
 use lib.Dec.{eqb}
 use Rattle.answer.specs.Refused.{fine}
 use borrow.Author.Needs.{needs}
 use Rattle.answer.proofs.Refusal.is_fine.Statement.{statement}
 use Rattle.answer.proofs.Refusal.is_fine.Tie as tie
-use Rattle.answer.proofs.Refusal.is_fine.Reads as reads
-use Rattle.answer.proofs.Refusal.is_fine.Lts as lts
-use Rattle.answer.proofs.Refusal.number.Reads as number-reads
 
 number-requires : tie.Need-number-requires
 number-requires c κs = search needs

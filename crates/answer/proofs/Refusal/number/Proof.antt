@@ -1,10 +1,10 @@
+-- `answer::Refusal::number` meets its contract.
+-- Assumes nothing.
 use mathlib.Core.Path.{sym, ap}
 use Rattle.answer.specs.Refused.{numberOf}
 use borrow.Author.Needs.{needs}
 use Rattle.answer.proofs.Refusal.number.Statement.{statement}
 use Rattle.answer.proofs.Refusal.number.Tie as tie
-use Rattle.answer.proofs.Refusal.number.Reads as reads
-use Rattle.answer.proofs.Refusal.number.Lts as lts
 
 enum-told : tie.Need-enum-told
 enum-told c = search needs

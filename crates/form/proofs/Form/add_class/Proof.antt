@@ -1,11 +1,11 @@
+-- `form::Form::add_class` meets its contract.
+-- Assumes nothing.
 use borrow.Author.Tests.{le-ltb, lt-ltb}
 use Rattle.lists.specs.Pick.{pick}
 use Rattle.form.specs.Adding.{addedTo, classAdded}
 use borrow.Author.Needs.{needs}
 use Rattle.form.proofs.Form.add_class.Statement.{statement}
 use Rattle.form.proofs.Form.add_class.Tie as tie
-use Rattle.form.proofs.Form.add_class.Reads as reads
-use Rattle.form.proofs.Form.add_class.Lts as lts
 
 returns : tie.Need-returns
 unfolding classAdded addedTo pick

@@ -1,11 +1,11 @@
+-- `form::Form::add_edge` meets its contract.
+-- Assumes nothing.
 use borrow.Author.Tests.{le-ltb, lt-ltb}
 use Rattle.lists.specs.Pick.{pick}
 use Rattle.form.specs.Adding.{addedTo, edgeAdded}
 use borrow.Author.Needs.{needs}
 use Rattle.form.proofs.Form.add_edge.Statement.{statement}
 use Rattle.form.proofs.Form.add_edge.Tie as tie
-use Rattle.form.proofs.Form.add_edge.Reads as reads
-use Rattle.form.proofs.Form.add_edge.Lts as lts
 
 returns : tie.Need-returns
 unfolding edgeAdded addedTo pick

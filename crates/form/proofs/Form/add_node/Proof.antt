@@ -1,11 +1,11 @@
+-- `form::Form::add_node` meets its contract.
+-- Assumes nothing.
 use borrow.Author.Tests.{le-ltb, lt-ltb}
 use Rattle.lists.specs.Pick.{pick}
 use Rattle.form.specs.Adding.{addedTo, nodeAdded}
 use borrow.Author.Needs.{needs}
 use Rattle.form.proofs.Form.add_node.Statement.{statement}
 use Rattle.form.proofs.Form.add_node.Tie as tie
-use Rattle.form.proofs.Form.add_node.Reads as reads
-use Rattle.form.proofs.Form.add_node.Lts as lts
 
 returns : tie.Need-returns
 unfolding nodeAdded addedTo pick

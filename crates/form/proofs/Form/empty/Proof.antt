@@ -1,9 +1,9 @@
+-- `form::Form::empty` meets its contract.
+-- Assumes nothing.
 use mathlib.Core.Path.{refl}
 use Rattle.form.specs.Places.{emptyForm}
 use Rattle.form.proofs.Form.empty.Statement.{statement}
 use Rattle.form.proofs.Form.empty.Tie as tie
-use Rattle.form.proofs.Form.empty.Reads as reads
-use Rattle.form.proofs.Form.empty.Lts as lts
 
 returns : tie.Need-returns
 unfolding emptyForm

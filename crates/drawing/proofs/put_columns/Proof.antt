@@ -1,0 +1,72 @@
+-- `drawing::put_columns` meets its contract: the loop's invariant is that the first columns are laid.
+-- Assumes nothing.
+use mathlib.Core.Path.{_≡_}
+use Prim.Native.Nat.{_≤_, _+_, _-_, _*_}
+use native.Mathlib.Omega.{arith}
+use Rattle.writer.specs.Laid.{Laid}
+use Rattle.writer.specs.Layout.{rows}
+use Rattle.writer.proofs.Laws.{nothing, row-more}
+use Rattle.listing.proofs.Laws.{rows-whole}
+use lib.ListN.{length, getD}
+use mathlib.Core.Path.{ap}
+use Rattle.form.specs.declared.Form.{Form}
+use Rattle.form.specs.Places.{noClass}
+use Rattle.drawing.specs.Table.{placesText}
+use Rattle.drawing.specs.Noted.{Noted}
+use Rattle.drawing.proofs.Laws.{tests}
+use Rattle.drawing.proofs.put_columns.Statement.{statement}
+use Rattle.drawing.proofs.put_columns.Tie as tie
+
+abbrev Inv-loop : tie.InvT-loop
+Inv-loop out₀ at step classes nodes kind start retiming class next₀ c₀ out next c = (c ≤ classes) × (next ≤ at + 818 * c) × (length out ≡ length out₀) × ((f : Form) → Noted f nodes kind start retiming → class ≡ f .class → Laid out₀ at (rows (placesText f step) c) out next)
+
+abbrev μ-loop : tie.MeasureT-loop
+μ-loop out₀ at step classes nodes kind start retiming class next₀ c₀ out next c = classes - c
+
+loop-holds : tie.Need-loop-holds Inv-loop μ-loop
+unfolding rows
+loop-holds c = (search tests, search tests, search tests, λ f t k. nothing _ _)
+
+cast-row : tie.Need-cast-row Inv-loop μ-loop
+cast-row c = search tests
+
+mul-row : tie.Need-mul-row Inv-loop μ-loop
+mul-row c = search tests
+
+array-copy-out-row : tie.Need-array-copy-out-row Inv-loop μ-loop
+array-copy-out-row c = search tests
+
+put-places-requires : tie.Need-put-places-requires Inv-loop μ-loop
+put-places-requires c κs = (search tests, search tests, (c .before .before .before .before .before .pre .2 .units) _ (omega arith))
+
+add-c : tie.Need-add-c Inv-loop μ-loop
+add-c c = search tests
+
+loop-less : tie.Need-loop-less Inv-loop μ-loop
+loop-less c = search tests
+
+loop-again : tie.Need-loop-again Inv-loop μ-loop
+loop-again c = (search tests, search tests, search tests, λ f t k. row-more _ _ _ _ _ _ _ _ ((c .before .before .before .before .before .before .loop .inv .3) f t k) ((c .before .before .put-places .ensures .1) f t (ap (λ x. getD x (c .before .before .before .before .before .before .loop .c) noClass) k)))
+
+same-length : tie.Need-same-length Inv-loop μ-loop
+same-length c = search tests
+
+returns : tie.Need-returns Inv-loop μ-loop
+returns c = (search tests, λ f t k. rows-whole _ _ _ _ _ _ _ (c .before .loop .inv .3 f t k) (omega arith))
+
+pub put-columns-spec : {M : Type 1} → statement M
+put-columns-spec =
+    tie.close
+    (tie.spec
+    Inv-loop
+    μ-loop
+    loop-holds
+    cast-row
+    mul-row
+    array-copy-out-row
+    put-places-requires
+    add-c
+    loop-less
+    loop-again
+    same-length
+    returns)

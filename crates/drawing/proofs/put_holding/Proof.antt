@@ -1,0 +1,71 @@
+-- `drawing::put_holding` meets its contract: the loop's invariant is that the first nodes are laid.
+-- Assumes nothing.
+use Prim.Native.Nat.{_≤_, _+_, _-_, _*_}
+use native.Mathlib.Omega.{arith}
+use Rattle.writer.specs.Laid.{Laid}
+use Rattle.writer.specs.Layout.{rows}
+use Rattle.writer.proofs.Laws.{nothing, same-long, row-more}
+use Rattle.listing.proofs.Laws.{rows-whole}
+use lib.ListN.{getD}
+use Rattle.drawing.specs.Table.{heldPlace}
+use Rattle.drawing.proofs.Laws.{tests}
+use Rattle.drawing.proofs.put_holding.Statement.{statement}
+use Rattle.drawing.proofs.put_holding.Tie as tie
+
+abbrev Inv-loop : tie.InvT-loop
+Inv-loop out₀ at step class hold nodes kind start count next₀ i₀ out next i = (i ≤ count) × (next ≤ at + 6 * i) × Laid out₀ at (rows (λ v. heldPlace step class hold v (getD kind v 0) (getD start v 0)) i) out next
+
+abbrev μ-loop : tie.MeasureT-loop
+μ-loop out₀ at step class hold nodes kind start count next₀ i₀ out next i = count - i
+
+loop-holds : tie.Need-loop-holds Inv-loop μ-loop
+unfolding rows
+loop-holds c = (search tests, search tests, nothing _ _)
+
+cast-put-holder : tie.Need-cast-put-holder Inv-loop μ-loop
+cast-put-holder c = search tests
+
+element-copy-out-put-holder : tie.Need-element-copy-out-put-holder Inv-loop μ-loop
+element-copy-out-put-holder c = search tests
+
+mul-put-holder : tie.Need-mul-put-holder Inv-loop μ-loop
+mul-put-holder c = search tests
+
+element-copy-out-put-holder-2 : tie.Need-element-copy-out-put-holder-2 Inv-loop μ-loop
+element-copy-out-put-holder-2 c = search tests
+
+put-holder-requires : tie.Need-put-holder-requires Inv-loop μ-loop
+put-holder-requires c κs = search tests
+
+add-i : tie.Need-add-i Inv-loop μ-loop
+add-i c = search tests
+
+loop-less : tie.Need-loop-less Inv-loop μ-loop
+loop-less c = search tests
+
+loop-again : tie.Need-loop-again Inv-loop μ-loop
+loop-again c = (search tests, search tests, row-more _ _ _ _ _ _ _ _ (c .before .before .before .before .before .before .before .loop .inv .2) (c .before .before .put-holder .ensures .1))
+
+same-length : tie.Need-same-length Inv-loop μ-loop
+same-length c = same-long _ _ _ _ _ (c .before .loop .inv .2)
+
+returns : tie.Need-returns Inv-loop μ-loop
+returns c = (search tests, rows-whole _ _ _ _ _ _ _ (c .before .loop .inv .2) (omega arith))
+
+pub put-holding-spec : {M : Type 1} → statement M
+put-holding-spec =
+    tie.close
+    (tie.spec
+    Inv-loop
+    μ-loop
+    loop-holds
+    cast-put-holder
+    element-copy-out-put-holder
+    mul-put-holder
+    element-copy-out-put-holder-2
+    put-holder-requires
+    add-i
+    loop-less
+    loop-again
+    same-length
+    returns)

@@ -1,0 +1,78 @@
+-- `drawing::put_starting` meets its contract: the loop's invariant is that the first nodes are laid.
+-- Assumes nothing.
+use Prim.Native.Nat.{_≤_, _+_, _-_, _*_}
+use native.Mathlib.Omega.{arith}
+use Rattle.writer.specs.Laid.{Laid}
+use Rattle.writer.specs.Layout.{rows}
+use Rattle.writer.proofs.Laws.{nothing, same-long}
+use Rattle.listing.proofs.Laws.{rows-whole}
+use lib.ListN.{getD}
+use Rattle.drawing.specs.Table.{startPlace}
+use Rattle.drawing.proofs.Laws.{tests, start-more}
+use Rattle.drawing.proofs.put_starting.Statement.{statement}
+use Rattle.drawing.proofs.put_starting.Tie as tie
+
+abbrev Inv-loop : tie.InvT-loop
+Inv-loop out₀ at step class nodes kind start retiming count next₀ i₀ out next i = (i ≤ count) × (next ≤ at + 6 * i) × Laid out₀ at (rows (λ v. startPlace step class v (getD kind v 0) (getD start v 0) (getD retiming v 0)) i) out next
+
+abbrev μ-loop : tie.MeasureT-loop
+μ-loop out₀ at step class nodes kind start retiming count next₀ i₀ out next i = count - i
+
+loop-holds : tie.Need-loop-holds Inv-loop μ-loop
+unfolding rows
+loop-holds c = (search tests, search tests, nothing _ _)
+
+cast-put-starter : tie.Need-cast-put-starter Inv-loop μ-loop
+cast-put-starter c = search tests
+
+element-copy-out-put-starter : tie.Need-element-copy-out-put-starter Inv-loop μ-loop
+element-copy-out-put-starter c = search tests
+
+mul-put-starter : tie.Need-mul-put-starter Inv-loop μ-loop
+mul-put-starter c = search tests
+
+element-copy-out-put-starter-2 : tie.Need-element-copy-out-put-starter-2 Inv-loop μ-loop
+element-copy-out-put-starter-2 c = search tests
+
+element-copy-out-put-starter-3 : tie.Need-element-copy-out-put-starter-3 Inv-loop μ-loop
+element-copy-out-put-starter-3 c = search tests
+
+put-starter-requires : tie.Need-put-starter-requires Inv-loop μ-loop
+put-starter-requires c κs = search tests
+
+add-i : tie.Need-add-i Inv-loop μ-loop
+add-i c = search tests
+
+loop-less : tie.Need-loop-less Inv-loop μ-loop
+loop-less c = search tests
+
+loop-again : tie.Need-loop-again Inv-loop μ-loop
+loop-again c =
+    let l = c .before .before .before .before .before .before .before .before in
+    let a = l .before .before .args in
+    (search tests, search tests, start-more _ _ (a .kind .now) (a .start .now) (a .retiming .now) _ _ _ _ _ _ _ _ _ _ (l .loop .inv .2) (c .before .before .put-starter .ensures .1) (omega arith) (omega arith) (omega arith))
+
+same-length : tie.Need-same-length Inv-loop μ-loop
+same-length c = same-long _ _ _ _ _ (c .before .loop .inv .2)
+
+returns : tie.Need-returns Inv-loop μ-loop
+returns c = (search tests, rows-whole _ _ _ _ _ _ _ (c .before .loop .inv .2) (omega arith))
+
+pub put-starting-spec : {M : Type 1} → statement M
+put-starting-spec =
+    tie.close
+    (tie.spec
+    Inv-loop
+    μ-loop
+    loop-holds
+    cast-put-starter
+    element-copy-out-put-starter
+    mul-put-starter
+    element-copy-out-put-starter-2
+    element-copy-out-put-starter-3
+    put-starter-requires
+    add-i
+    loop-less
+    loop-again
+    same-length
+    returns)

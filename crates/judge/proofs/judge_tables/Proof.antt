@@ -1,0 +1,64 @@
+-- `judge::judge_tables` meets its contract: no schedule, a knot, then the rules.
+-- Assumes nothing.
+use borrow.Author.Needs.{needs}
+use Rattle.tables.specs.Times.{no-length, some-length}
+use Rattle.tables.specs.Lent.{lent-ends, lent-sound}
+use Rattle.rules.specs.Busy.{seated-form}
+use Rattle.judge.proofs.Laws.{edge-refused, edges-kept, judged-bare, judged-knot, judged-rules}
+use Rattle.judge.proofs.judge_tables.Statement.{statement}
+use Rattle.judge.proofs.judge_tables.Tie as tie
+
+alone-requires : tie.Need-alone-requires
+alone-requires c κs = search needs
+
+returns : tie.Need-returns
+returns c = λ f lent. judged-bare f _ (no-length f _ (lent .timed) (c .before .if1 .taken)) (c .alone .ensures .0) (c .alone .ensures .1)
+
+knot-of-requires : tie.Need-knot-of-requires
+knot-of-requires c κs = let f = c .before .before .pre in lent-ends (f .0) _ _ _ _ _ (f .1)
+
+returns-2 : tie.Need-returns-2
+returns-2 c = λ f lent. judged-knot f (some-length f _ (lent .timed) (c .before .before .before .if1 .left)) _ (c .before .before .knot-of .ensures _ (lent .told)) (c .if2 .taken)
+
+broken-edge-requires : tie.Need-broken-edge-requires
+broken-edge-requires c κs = let f = c .before .before .before .before .before .pre in lent-ends (f .0) _ _ _ _ _ (f .1)
+
+cast-t12 : tie.Need-cast-t12
+cast-t12 c = search needs
+
+alone-requires-2 : tie.Need-alone-requires-2
+alone-requires-2 c κs = search needs
+
+returns-3 : tie.Need-returns-3
+returns-3 c = λ f lent.
+    judged-rules f _ (some-length f _ (lent .timed) (c .before .before .before .before .before .before .if1 .left)) _ (c .before .before .before .before .before .knot-of .ensures _ (lent .told)) (c .before .before .before .if2 .left) _
+    (edge-refused _ _ _ _ (lent .told .all-edges) (c .before .before .broken-edge .ensures _ _ (lent .told) (lent .timed)) (c .before .if3 .taken)) (c .alone2 .ensures .0) (c .alone2 .ensures .1)
+
+crowded-requires : tie.Need-crowded-requires
+crowded-requires c κs = let f = c .before .before .before .before .before .before .before .pre in lent-sound (f .0) _ _ _ _ _ (f .1)
+
+alone-requires-3 : tie.Need-alone-requires-3
+alone-requires-3 c κs = search needs
+
+returns-4 : tie.Need-returns-4
+returns-4 c = λ f lent.
+    let some = some-length f _ (lent .timed) (c .before .before .before .before .before .before .before .if1 .left) in
+    judged-rules f _ some _ (c .before .before .before .before .before .before .knot-of .ensures _ (lent .told)) (c .before .before .before .before .if2 .left) _
+    (edges-kept _ _ _ _ (lent .told .all-edges) (c .before .before .before .broken-edge .ensures _ _ (lent .told) (lent .timed)) (c .before .before .if3 .left) _ (c .before .crowded .ensures _ _ (lent .timed) (seated-form f (lent .good) some)))
+    (c .alone3 .ensures .0) (c .alone3 .ensures .1)
+
+pub judge-tables-spec : {M : Type 1} → statement M
+judge-tables-spec =
+    tie.close
+    (tie.spec
+    alone-requires
+    returns
+    knot-of-requires
+    returns-2
+    broken-edge-requires
+    cast-t12
+    alone-requires-2
+    returns-3
+    crowded-requires
+    alone-requires-3
+    returns-4)

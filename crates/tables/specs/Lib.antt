@@ -1,0 +1,4 @@
+pub mod Edges
+pub mod Times
+pub mod Lent
+pub mod Most

@@ -1,0 +1,56 @@
+-- `text::put_word` meets its contract: the loop's invariant is that its first bytes are laid.
+-- Assumes nothing.
+use mathlib.Core.Path.{_≡_}
+use Prim.Native.Nat.{_≤_, _+_, _-_}
+use native.Mathlib.Omega.{arith}
+use lib.ListN.{length, take}
+use Rattle.writer.specs.Laid.{Laid}
+use Rattle.writer.proofs.Laws.{nothing, same-long}
+use Rattle.text.proofs.Laws.{tests, byte-more, word-whole}
+use Rattle.text.proofs.put_word.Statement.{statement}
+use Rattle.text.proofs.put_word.Tie as tie
+
+abbrev Inv-loop : tie.InvT-loop
+Inv-loop out₀ at word next₀ i₀ out next i = (i ≤ length word) × (next ≡ at + i) × Laid out₀ at (take i word) out next
+
+abbrev μ-loop : tie.MeasureT-loop
+μ-loop out₀ at word next₀ i₀ out next i = length word - i
+
+loop-holds : tie.Need-loop-holds Inv-loop μ-loop
+loop-holds c = (search tests, search tests, nothing _ _)
+
+shared-slice-read-put-byte : tie.Need-shared-slice-read-put-byte Inv-loop μ-loop
+shared-slice-read-put-byte c = search tests
+
+put-byte-requires : tie.Need-put-byte-requires Inv-loop μ-loop
+put-byte-requires c κs = search tests
+
+add-i : tie.Need-add-i Inv-loop μ-loop
+add-i c = search tests
+
+loop-less : tie.Need-loop-less Inv-loop μ-loop
+loop-less c = search tests
+
+loop-again : tie.Need-loop-again Inv-loop μ-loop
+loop-again c = (search tests, search tests, byte-more _ _ _ _ _ _ _ _ _ (c .before .before .before .before .before .loop-test .taken) (omega arith) (c .before .before .before .before .before .before .loop .inv .2) (c .before .before .put-byte .ensures .1))
+
+same-length : tie.Need-same-length Inv-loop μ-loop
+same-length c = same-long _ _ _ _ _ (c .before .loop .inv .2)
+
+returns : tie.Need-returns Inv-loop μ-loop
+returns c = word-whole _ _ _ _ _ _ (c .loop-test .left) (c .before .loop .inv .2)
+
+pub put-word-spec : {M : Type 1} → statement M
+put-word-spec =
+    tie.close
+    (tie.spec
+    Inv-loop
+    μ-loop
+    loop-holds
+    shared-slice-read-put-byte
+    put-byte-requires
+    add-i
+    loop-less
+    loop-again
+    same-length
+    returns)
