@@ -456,18 +456,20 @@ pub fn read(s: &[u8]) -> Record
     let to = graph.to;
     let delays = graph.delays;
     let start = schedule.start;
-    let form = Form {
-        classes: counts.classes,
-        nodes: counts.nodes,
-        edges: counts.edges,
-        length: counts.length,
-        class,
-        node,
-        from,
-        to,
-        delays,
-        start,
-        retiming,
-    };
-    Record { refusal, form }
+    Record {
+        refusal,
+        form: Form {
+            classes: counts.classes,
+            nodes: counts.nodes,
+            edges: counts.edges,
+            length: counts.length,
+            class,
+            node,
+            from,
+            to,
+            delays,
+            start,
+            retiming,
+        },
+    }
 }

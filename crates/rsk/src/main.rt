@@ -3,14 +3,14 @@
 mod tell;
 mod work;
 
-use words::Command;
-use words::Number;
+use commands::Command;
+use commands::Number;
 
 // The number that the word at a place is.
 fn number_at(place: usize) -> Number {
     let mut word = io::buffer();
     let length = os::arg(place, &mut word);
-    words::number_of(&word[..length])
+    commands::number_of(&word[..length])
 }
 
 // The commands without a number.
@@ -102,7 +102,7 @@ fn main() {
     let count = os::arg_count();
     let mut word = io::buffer();
     let length = os::arg(1, &mut word);
-    let command = words::command_of(&word[..length]);
+    let command = commands::command_of(&word[..length]);
     match command {
         Command::Unknown => {
             tell::usage();

@@ -3,8 +3,8 @@ ghost use mathlib.Core.Path.{_≡_};
 ghost use Prim.Native.Nat.{_≤_};
 ghost use lib.ListN.{length};
 use crate::tell;
+use commands::Command;
 use libc::STDOUT_FILENO;
-use words::Command;
 
 pub(crate) fn judge() {
     let mut bytes = io::buffer();

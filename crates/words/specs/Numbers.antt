@@ -1,11 +1,9 @@
--- Decimal numbers: below 2^32 as text, and up to 65535 from text.
+-- Decimal numbers below 2^32 as text.
 -- Assumes nothing.
 use mathlib.Core.List.{List, [], _∷_, _++_}
-use Prim.Native.Nat.{ℕ, _+_, _-_, _*_, _/_, _%_}
-use lib.Dec.{ltb, eqb}
+use Prim.Native.Nat.{ℕ, _+_, _/_, _%_}
+use lib.Dec.{ltb}
 use Rattle.lists.specs.Pick.{pick}
-use Rattle.words.specs.declared.Number.{Number}
-use Rattle.words.specs.declared.Number.the-variants.{Is, Not}
 
 -- the digit at a place, which is a power of 10; none before the first digit that counts
 unfoldable pub placeText : ℕ → ℕ → List ℕ
@@ -21,18 +19,3 @@ lowText n = placeText n 10000 ++ (placeText n 1000 ++ (placeText n 100 ++ (place
 -- a number below 2^32 in decimal, without leading zeros
 unfoldable pub numeral : ℕ → List ℕ
 numeral n = highText n ++ lowText n
-
--- a number with one digit more; 65536 where the byte is no digit or the number would be above 65535
-unfoldable pub longerBy : ℕ → ℕ → ℕ
-longerBy value byte =
-    pick (ltb byte 48) 65536 (pick (ltb 57 byte) 65536 (pick (ltb 65535 (value * 10 + (byte - 48))) 65536 (value * 10 + (byte - 48))))
-
--- what the digits that are left make of the number so far
-unfoldable pub numberFrom : ℕ → List ℕ → Number
-numberFrom value [] = Is value
-numberFrom value (byte ∷ bytes) = pick (eqb (longerBy value byte) 65536) Not (numberFrom (longerBy value byte) bytes)
-
--- the number of 0 to 65535 that a word is in decimal; the empty word is none
-unfoldable pub numberIn : List ℕ → Number
-numberIn [] = Not
-numberIn (byte ∷ bytes) = numberFrom 0 (byte ∷ bytes)

@@ -1,14 +1,14 @@
--- `words::number_of` meets its contract: what is left makes of the number so far what the word is.
+-- `commands::number_of` meets its contract: what is left makes of the number so far what the word is.
 -- Assumes nothing.
 use mathlib.Core.Path.{_≡_}
 use Prim.Native.Nat.{_≤_, _<_, _-_}
 use native.Mathlib.Omega.{arith}
 use lib.ListN.{length, drop}
 use borrow.Author.Needs.{needs}
-use Rattle.words.specs.Numbers.{numberFrom, numberIn}
-use Rattle.words.proofs.Laws.{no-digits, some-digits, number-none, number-more, number-whole}
-use Rattle.words.proofs.number_of.Statement.{statement}
-use Rattle.words.proofs.number_of.Tie as tie
+use Rattle.commands.specs.Numbers.{numberFrom, numberIn}
+use Rattle.commands.proofs.Laws.{no-digits, some-digits, number-none, number-more, number-whole}
+use Rattle.commands.proofs.number_of.Statement.{statement}
+use Rattle.commands.proofs.number_of.Tie as tie
 
 abbrev Inv-loop : tie.InvT-loop
 Inv-loop word value₀ i₀ value i = (i ≤ length word) × (value < 65536) × (numberFrom value (drop i word) ≡ numberIn word)

@@ -5,8 +5,8 @@ use mathlib.Core.List.{List, [], _∷_}
 use Prim.Native.Nat.{ℕ}
 use lib.Dec.{eqb}
 use Rattle.lists.specs.Pick.{pick}
-use Rattle.words.specs.declared.Command.{Command}
-use Rattle.words.specs.declared.Command.the-variants.{Unknown, Judge, Floor, Fit, First, Rotate, Search, Listing, Run, Plain, Table, Help}
+use Rattle.commands.specs.declared.Command.{Command}
+use Rattle.commands.specs.declared.Command.the-variants.{Unknown, Judge, Floor, Fit, First, Rotate, Search, Listing, Run, Plain, Table, Help}
 
 -- whether two words are the same, byte by byte
 unfoldable pub sameWord : List ℕ → List ℕ → Bool

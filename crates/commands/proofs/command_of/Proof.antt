@@ -1,11 +1,11 @@
--- `words::command_of` meets its contract: each name is tried in turn.
+-- `commands::command_of` meets its contract: each name is tried in turn.
 -- Assumes nothing.
 use mathlib.Core.Path.{sym, _∙_}
 use borrow.Author.Needs.{needs}
 use Rattle.lists.specs.Pick.{pick-true, pick-false}
-use Rattle.words.specs.Commands.{commandOf, judgeName, floorName, listName, tableName, runName, plainName, helpName}
-use Rattle.words.proofs.command_of.Statement.{statement}
-use Rattle.words.proofs.command_of.Tie as tie
+use Rattle.commands.specs.Commands.{commandOf, judgeName, floorName, listName, tableName, runName, plainName, helpName}
+use Rattle.commands.proofs.command_of.Statement.{statement}
+use Rattle.commands.proofs.command_of.Tie as tie
 
 slice-aggregate-same : tie.Need-slice-aggregate-same
 slice-aggregate-same c = search needs

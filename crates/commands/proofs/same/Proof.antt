@@ -1,14 +1,14 @@
--- `words::same` meets its contract: the bytes that are left are the same as the whole words are.
+-- `commands::same` meets its contract: the bytes that are left are the same as the whole words are.
 -- Assumes nothing.
 use mathlib.Core.Path.{_≡_, refl}
 use Prim.Native.Nat.{_≤_, _-_}
 use native.Mathlib.Omega.{arith}
 use lib.ListN.{length, drop}
 use borrow.Author.Needs.{needs}
-use Rattle.words.specs.Commands.{sameWord}
-use Rattle.words.proofs.Laws.{other-length, other-byte, same-more, same-whole}
-use Rattle.words.proofs.same.Statement.{statement}
-use Rattle.words.proofs.same.Tie as tie
+use Rattle.commands.specs.Commands.{sameWord}
+use Rattle.commands.proofs.Laws.{other-length, other-byte, same-more, same-whole}
+use Rattle.commands.proofs.same.Statement.{statement}
+use Rattle.commands.proofs.same.Tie as tie
 
 abbrev Inv-loop : tie.InvT-loop
 Inv-loop a b i₀ i = (i ≤ length a) × (length a ≡ length b) × (sameWord (drop i a) (drop i b) ≡ sameWord a b)

@@ -1,11 +1,11 @@
--- `words::rewriting` meets its contract: each name is tried in turn.
+-- `commands::rewriting` meets its contract: each name is tried in turn.
 -- Assumes nothing.
 use mathlib.Core.Path.{sym, _∙_}
 use borrow.Author.Needs.{needs}
 use Rattle.lists.specs.Pick.{pick-true, pick-false}
-use Rattle.words.specs.Commands.{rewritingOf, fitName, firstName, rotateName, searchName}
-use Rattle.words.proofs.rewriting.Statement.{statement}
-use Rattle.words.proofs.rewriting.Tie as tie
+use Rattle.commands.specs.Commands.{rewritingOf, fitName, firstName, rotateName, searchName}
+use Rattle.commands.proofs.rewriting.Statement.{statement}
+use Rattle.commands.proofs.rewriting.Tie as tie
 
 slice-aggregate-same : tie.Need-slice-aggregate-same
 slice-aggregate-same c = search needs

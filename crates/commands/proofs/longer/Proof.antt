@@ -1,10 +1,10 @@
--- `words::longer` meets its contract: no digit, too large, or one digit more.
+-- `commands::longer` meets its contract: no digit, too large, or one digit more.
 -- Assumes nothing.
 use native.Mathlib.Omega.{arith}
 use borrow.Author.Needs.{needs}
-use Rattle.words.proofs.Laws.{below-digits, above-digits, too-large, one-digit-more}
-use Rattle.words.proofs.longer.Statement.{statement}
-use Rattle.words.proofs.longer.Tie as tie
+use Rattle.commands.proofs.Laws.{below-digits, above-digits, too-large, one-digit-more}
+use Rattle.commands.proofs.longer.Statement.{statement}
+use Rattle.commands.proofs.longer.Tie as tie
 
 returns : tie.Need-returns
 returns c = (search needs, below-digits _ _ (c .if1 .taken))
