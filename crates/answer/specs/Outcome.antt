@@ -1,8 +1,7 @@
 -- The list of an answer, as others link it: the refusal's number, three details or numbers, and the cycle handed over.
 -- Assumes nothing.
-use mathlib.Core.Path.{_≡_}
 use mathlib.Core.List.{List, [], _∷_, _++_, map}
-use Prim.Native.Nat.{ℕ, _≤_}
+use Prim.Native.Nat.{ℕ}
 use lib.Dec.{ltb}
 use lib.ListN.{getD, take, replicate}
 use Rattle.lists.specs.Pick.{pick}
@@ -18,10 +17,6 @@ noCycle = record { count = 0; edges = replicate 64 0 }
 -- the edges that a cycle hands over
 abbrev pub edgesOf : Cycle → List ℕ
 edgesOf c = take (c .count) (c .edges)
-
--- the places past them hold 0
-abbrev pub Filled : Cycle → Type 0
-Filled c = (i : ℕ) → c .count ≤ i → getD (c .edges) i 0 ≡ 0
 
 -- the details of what is refused; where nothing is, the answer's numbers
 unfoldable pub toldOf : Refusal → Details → Details

@@ -1,7 +1,7 @@
 -- Tables of edges among m nodes, read as a system of n nodes: its walks are the same.
 -- So rows of 64 places serve every number of nodes up to 64.
 -- Assumes nothing.
-use mathlib.Core.Path.{_≡_}
+use mathlib.Core.Path.{_≡_, refl}
 use mathlib.Core.List.{List, [], _∷_}
 use Prim.Native.Nat.{ℕ, _≤_, _<_}
 use lib.ListN.{length, getD, take, length-take}
@@ -11,6 +11,8 @@ use Rattle.answer.specs.declared.Cycle.{Cycle}
 use Rattle.system.specs.Graph.{Walk, Joined}
 use Rattle.system.specs.System.{System, systemOf, gains, costs, LosingWalk}
 use Rattle.cycle.specs.Fewest.{losing-from, losing-within, fewest-is-cycle}
+use Rattle.answer.specs.Outcome.{noCycle}
+use Rattle.answer.specs.Tally.{none-tallies}
 use Rattle.cycle.specs.Found.{Tables, BestStart, ClosedWalk, FoundCycle}
 
 module _ (e : ℕ) (ts hs gs cs : List ℕ) where
@@ -49,13 +51,13 @@ module _ (e : ℕ) (ts hs gs cs : List ℕ) where
               ))
         ]
 
-    pub none-found : n < count → (xs : List ℕ) → ((p : ℕ) → getD xs p 0 ≡ 0) → FoundCycle (among n) (record { count = 0; edges = xs })
+    pub none-found : n < count → FoundCycle (among n) noCycle
     unfolding systemOf
-    none-found l xs z = record {
+    none-found l = record {
       none = λ q es w. let t = losing-within (among n) j es w in omega (arith, t .few, no-fewer (t .walk) (t .losing));
       some = λ q. absurd (omega arith);
       few = omega arith;
-      rest = λ p q. z p;
+      tallies = none-tallies noCycle refl;
     }
 
     pub cycle-found : count ≤ n → (r : Cycle) → ClosedWalk (among m) count r → FoundCycle (among n) r
@@ -66,5 +68,5 @@ module _ (e : ℕ) (ts hs gs cs : List ℕ) where
           rw (c .size)
           (fewest-is-cycle (among n) (take count (r .edges)) (losing-among m n (take count (r .edges)) (c .losing)) (λ fs w. omega (arith, no-fewer fs w, length-take count (r .edges))));
       few = omega (arith, c .size);
-      rest = λ p q. c .rest p (omega (arith, c .size));
+      tallies = c .tallies;
     }

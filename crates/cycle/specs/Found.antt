@@ -9,6 +9,8 @@ use borrow.Author.Count.{below-none, below-more}
 use native.Mathlib.Decide.{decLt}
 use Rattle.lists.specs.Fold.{sumOf}
 use Rattle.answer.specs.declared.Cycle.{Cycle}
+use Rattle.answer.specs.Outcome.{edgesOf}
+use Rattle.answer.specs.Tally.{Tallies}
 use Rattle.system.specs.Graph.{Walk, Joined}
 use Rattle.system.specs.System.{System, systemOf, gains, costs, LosingWalk, Shortest}
 use Rattle.cycle.specs.Row.{base, Worth, Row, Gives}
@@ -47,18 +49,18 @@ pub record NextEdge (s : System) (row : List ℕ) (node value r : ℕ) : Type 0 
   pub first : (e : ℕ) → e < r → s .graph .tail e ≡ node → Gives s row e value → ⊥
   pub found : r < s .graph .edges → (s .graph .tail r ≡ node) × Gives s row r value × (value ≤ getD row (s .graph .head r) 0 + 65535)
 
--- a closed walk of so many edges that loses, and 0 past its edges
+-- a closed walk of so many edges that loses
 pub record ClosedWalk (s : System) (count : ℕ) (r : Cycle) : Type 0 where
   pub size : r .count ≡ count
   pub losing : LosingWalk s (take count (r .edges))
-  pub rest : (p : ℕ) → count ≤ p → getD (r .edges) p 0 ≡ 0
+  pub tallies : Tallies r
 
 -- a losing cycle with the fewest edges of all losing closed walks, or none where no closed walk loses
 pub record FoundCycle (s : System) (r : Cycle) : Type 0 where
   pub none : r .count ≡ 0 → (es : List ℕ) → LosingWalk s es → ⊥
-  pub some : 0 < r .count → Shortest s (take (r .count) (r .edges))
+  pub some : 0 < r .count → Shortest s (edgesOf r)
   pub few : r .count ≤ s .graph .nodes
-  pub rest : (p : ℕ) → r .count ≤ p → getD (r .edges) p 0 ≡ 0
+  pub tallies : Tallies r
 
 pub none-below-one : (s : System) (node : ℕ) → NoneBelow s node 1
 unfolding gains costs sumOf

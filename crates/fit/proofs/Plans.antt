@@ -30,7 +30,7 @@ use Rattle.system.specs.Rounds.{settledOf}
 use Rattle.legal.specs.Loop.{Loop, Pair, loopOf, pairOf}
 use Rattle.legal.specs.Systems.{knotted, limits}
 use Rattle.legal.specs.Judging.{overStep, unitsOf}
-use Rattle.legal.specs.Handed.{Handed, handed-none}
+use Rattle.legal.specs.Handed.{Handed, handed-none, handed-knot}
 use Rattle.knots.specs.Found.{KnotFound}
 use Rattle.record.specs.Early.{read-early}
 use Rattle.fit.specs.declared.Fitting.{Fitting}
@@ -62,12 +62,7 @@ module _ (f : Form) where
     plan-knot l rs = record {
       refusal = sym (pick-false (eqb (f .length) 0) _ _ (ne-eqb _ _ n) ∙ pick-true (knotted (loopOf f)) _ _ (found .tied l));
       form = λ q. both-ways q refl;
-      handed = record {
-        knot = λ _. found .knot l;
-        impossible = λ q. let z : _≡_ {A = ℕ} 12 14 = ap numberOf q in absurd (omega arith);
-        none = λ q _. absurd (q refl);
-        filled = found .filled;
-      };
+      handed = handed-knot (loopOf f) (pairOf f) k (found .knot l) (found .tallies);
     }
 
     module _ (l : k .count ≤ 0) (t : Fitting) (s : StartsFitted (loopOf f) (pairOf f) t) where
@@ -83,7 +78,7 @@ module _ (f : Form) where
           knot = λ q. let z : _≡_ {A = ℕ} 14 12 = ap numberOf q in absurd (omega arith);
           impossible = λ _. s .impossible b;
           none = λ _ q. absurd (q refl);
-          filled = s .filled;
+          tallies = s .tallies;
         };
       }
 

@@ -89,7 +89,7 @@ module _ (g : Loop) (p : Pair) (n m : ℕ) (ts hs gs cs : List ℕ) (d : Describ
       none = λ q. s .none b;
       zeros = λ q. absurd (true≢false q);
       impossible = λ q. absurd (true≢false q);
-      filled = s .filled;
+      tallies = s .tallies;
     }
 
     -- and one that is not has a cycle that no retiming can pass
@@ -100,5 +100,5 @@ module _ (g : Loop) (p : Pair) (n m : ℕ) (ts hs gs cs : List ℕ) (d : Describ
       none = λ q. absurd (true≢false (sym q));
       zeros = λ q. refl;
       impossible = λ q. losing-impossible g p _ (same-losing held _ held-same _ (s .shortest b .losing));
-      filled = s .filled;
+      tallies = s .tallies;
     }

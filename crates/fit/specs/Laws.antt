@@ -101,7 +101,9 @@ module _ (f : Form) (w : WellFormed f) (n : f .length ≢ 0) (q : Settles (loopO
   -- its pair is legal where the starts keep the unit rule
   pub fitted-form-legal : UnitRule (loopOf f) (pairOf f) → Legal (loopOf (fittedForm f)) (pairOf (fittedForm f))
   unfolding fittedForm withRetiming loopOf graphOf pairOf
-  fitted-form-legal units = retimings-legal (loopOf f) (pairOf f) (sound-form f w) q (placed-form f w n .body) units
+  fitted-form-legal units =
+      let placed = placed-form f w n in
+      retimings-legal (loopOf f) (pairOf f) (sound-form f w) q (placed .steps) (placed .body) units
 
 -- ---- what a fit answers
 

@@ -6,7 +6,8 @@ use mathlib.Core.List.{List}
 use Prim.Native.Nat.{ℕ}
 use lib.ListN.{replicate}
 use Rattle.lists.specs.Filled.{filled}
-use Rattle.answer.specs.Outcome.{noCycle, edgesOf, Filled}
+use Rattle.answer.specs.Outcome.{noCycle, edgesOf}
+use Rattle.answer.specs.Tally.{Tallies}
 use Rattle.system.specs.Rounds.{settledOf}
 use Rattle.form.specs.declared.Form.{Form}
 use Rattle.legal.specs.Loop.{Loop, Pair, loopOf, pairOf}
@@ -45,7 +46,7 @@ pub record StartsFitted (g : Loop) (p : Pair) (r : Fitting) : Type 0 where
   pub none : r .fits ≡ true → r .cycle ≡ noCycle
   pub zeros : r .fits ≡ false → r .retiming ≡ replicate 64 0
   pub impossible : r .fits ≡ false → Impossible g p (edgesOf (r .cycle))
-  pub filled : Filled (r .cycle)
+  pub tallies : Tallies (r .cycle)
 
 -- whichever loop and starts the tables are of, they are fitted
 abbrev pub TablesFitted : ℕ → ℕ → List ℕ → List ℕ → List ℕ → List ℕ → Fitting → Type 0

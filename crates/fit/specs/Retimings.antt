@@ -71,11 +71,12 @@ module _ (g : Loop) (p : Pair) where
     retimings-largest r h under v l = omega (arith, retimings-at v l, fits-under g p s r (top (retimings g p)) h under retimings-top v l)
 
     -- starts in the body that keep the unit rule are legal with it
-    pub retimings-legal : Bodied g p → UnitRule g p → Legal g retimedPair
+    pub retimings-legal : (1 ≤ p .length) × (p .length ≤ 512) → Bodied g p → UnitRule g p → Legal g retimedPair
     unfolding lateness busy occupies
-    retimings-legal b units =
+    retimings-legal steps b units =
         let body : Bodied g retimedPair = λ v l. record { begins = b v l .begins; ends = b v l .ends } in
         record {
+          steps = steps;
           body = body;
           retimings = λ v l. retimings-small v;
           least = retimings-zero;

@@ -10,10 +10,10 @@ use lib.ListN.{getD}
 use Rattle.lists.specs.Pick.{pick, pick-true, pick-false}
 use Rattle.lists.specs.Span.{span}
 use Rattle.lists.specs.Fold.{top}
-use Rattle.lists.specs.Place.{zeros-at}
 use Rattle.lists.specs.Sums.{top-each, top-under}
 use Rattle.answer.specs.Refused.{numberOf, fine}
-use Rattle.answer.specs.Outcome.{noCycle, edgesOf, Filled}
+use Rattle.answer.specs.Outcome.{noCycle, edgesOf}
+use Rattle.answer.specs.Tally.{Tallies, none-tallies}
 use Rattle.answer.specs.declared.Cycle.{Cycle}
 use Rattle.answer.specs.declared.Refusal.the-variants as refusal
 use Rattle.form.specs.declared.Form.{Form}
@@ -92,7 +92,7 @@ alone-cycle g r n m e = record {
   knot = λ k. absurd (n (ap numberOf k));
   breaks = λ k. absurd (m (ap partNumber k));
   none = λ _ _. e;
-  filled = λ i h. rw e (zeros-at 64 i);
+  tallies = none-tallies (r .cycle) e;
 }
 
 module _ (f : Form) (free : knotted (loopOf f) ≡ false) where
@@ -116,14 +116,14 @@ module _ (f : Form) (free : knotted (loopOf f) ≡ false) where
       (alone-cycle (loopOf f) r (λ k. omega (arith, k, ap numberOf (e .0))) (λ k. n (sym (ap partNumber (e .2)) ∙ k)) (e .3))
 
   -- with (c)
-  pub floored-cycle : (floor : ℕ) (c : Cycle) → Attains (loopOf f) part.Cycle → floor ≡ floorLength (loopOf f) → Losing (paces (loopOf f) (floor - 1)) (edgesOf c) × Filled c
+  pub floored-cycle : (floor : ℕ) (c : Cycle) → Attains (loopOf f) part.Cycle → floor ≡ floorLength (loopOf f) → Losing (paces (loopOf f) (floor - 1)) (edgesOf c) × Tallies c
       → FormFloored f (record { refusal = refusal.None; floor = floor; part = part.Cycle; cycle = c })
   floored-cycle floor c a is breaks =
       floored _ part.Cycle a refl is refl (record {
         knot = λ k. let n : _≡_ {A = ℕ} 0 12 = ap numberOf k in absurd (omega arith);
         breaks = λ _. rw (← is) (breaks .0);
         none = λ _ n. absurd (n refl);
-        filled = breaks .1;
+        tallies = breaks .1;
       })
 
   -- so it is where (c) attains it
@@ -147,7 +147,7 @@ floored-knot f c found l = record {
     knot = λ _. found .knot l;
     breaks = λ k. let n : _≡_ {A = ℕ} 0 3 = ap partNumber k in absurd (omega arith);
     none = λ n _. absurd (n refl);
-    filled = found .filled;
+    tallies = found .tallies;
   };
 }
 

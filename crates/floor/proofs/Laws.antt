@@ -16,7 +16,8 @@ use Rattle.lists.specs.Span.{span}
 use Rattle.lists.specs.Fold.{count, count-snoc}
 use Rattle.lists.specs.Count.{count-same}
 use Rattle.lists.specs.Sums.{top-none, top-last, top-each}
-use Rattle.answer.specs.Outcome.{edgesOf, Filled}
+use Rattle.answer.specs.Outcome.{edgesOf}
+use Rattle.answer.specs.Tally.{Tallies}
 use Rattle.form.specs.declared.Form.{Form}
 use Rattle.form.specs.declared.Class.{Class}
 use Rattle.form.specs.Places.{noClass}
@@ -139,11 +140,11 @@ module _ (n m : ℕ) (from to delays : List ℕ) (edged : Edged n m from to dela
     held-enough r is = ap (λ (x : Settled). x .settled) (is ∙ same-settled held (paces g l) held-paces)
 
     -- else a cycle loses
-    pub held-breaks : (r : Solution) → Solved held r → enough g l ≡ false → Losing (paces g l) (edgesOf (r .cycle)) × Filled (r .cycle)
+    pub held-breaks : (r : Solution) → Solved held r → enough g l ≡ false → Losing (paces g l) (edgesOf (r .cycle)) × Tallies (r .cycle)
     unfolding enough
     held-breaks r t q =
         let unsettled : r .settled ≡ false = t .settled ∙ ap (λ (x : Settled). x .settled) (same-settled held (paces g l) held-paces) ∙ q in
-        (same-losing held (paces g l) held-paces _ (t .shortest unsettled .losing), t .filled)
+        (same-losing held (paces g l) held-paces _ (t .shortest unsettled .losing), t .tallies)
 
 -- ---- the edges of a form
 

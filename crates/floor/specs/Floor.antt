@@ -8,7 +8,8 @@ use lib.Dec.{eqb}
 use Rattle.lists.specs.Pick.{pick}
 use Rattle.lists.specs.First.{firstFrom}
 use Rattle.answer.specs.Refused.{fine}
-use Rattle.answer.specs.Outcome.{noCycle, edgesOf, Filled}
+use Rattle.answer.specs.Outcome.{noCycle, edgesOf}
+use Rattle.answer.specs.Tally.{Tallies}
 use Rattle.answer.specs.declared.Refusal.{Refusal}
 use Rattle.answer.specs.declared.Refusal.the-variants as refusal
 use Rattle.form.specs.declared.Form.{Form}
@@ -52,7 +53,7 @@ pub record FloorCycle (g : Loop) (r : Floored) : Type 0 where
   pub knot : r .refusal ≡ refusal.Knot → Knot g (edgesOf (r .cycle))
   pub breaks : r .part ≡ part.Cycle → Losing (paces g (floorLength g - 1)) (edgesOf (r .cycle))
   pub none : r .refusal ≢ refusal.Knot → r .part ≢ part.Cycle → r .cycle ≡ noCycle
-  pub filled : Filled (r .cycle)
+  pub tallies : Tallies (r .cycle)
 
 pub record FormFloored (f : Form) (r : Floored) : Type 0 where
   pub refusal : r .refusal ≡ floorRefusal f

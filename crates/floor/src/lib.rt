@@ -3,7 +3,8 @@ ghost use mathlib.Core.Path.{_≡_};
 ghost use mathlib.Core.Bool.{false};
 ghost use Prim.Native.Nat.{ℕ, _+_, _-_, _*_, _/_, _≤_, _<_, max};
 ghost use lib.ListN.{getD};
-ghost use Rattle.answer.specs.Outcome.{noCycle, edgesOf, Filled};
+ghost use Rattle.answer.specs.Outcome.{noCycle, edgesOf};
+ghost use Rattle.answer.specs.Tally.{Tallies};
 ghost use Rattle.form.specs.declared.Form.{Form};
 ghost use Rattle.form.specs.Ranges.{GoodClass};
 ghost use Rattle.system.specs.System.{Losing};
@@ -235,7 +236,7 @@ fn breaking_cycle<'a>(
     length: u16,
 ) -> Cycle
     requires { ⌜ Edged nodes edges (now from) (now to) (now delays) × (length ≤ 512) ⌝ }
-    ensures { λ r. ⌜ ((g : Loop) → Told g nodes edges (now (from .entry)) (now (to .entry)) (now (delays .entry)) → Costed g edges (now (costs .entry)) → enough g length ≡ false → Losing (paces g length) (edgesOf r) × Filled r) ⌝ }
+    ensures { λ r. ⌜ ((g : Loop) → Told g nodes edges (now (from .entry)) (now (to .entry)) (now (delays .entry)) → Costed g edges (now (costs .entry)) → enough g length ≡ false → Losing (paces g length) (edgesOf r) × Tallies r) ⌝ }
 {
     let gains = gains_of(edges, delays, length);
     let solution = solve::solve(nodes, edges, from, to, &gains, costs);

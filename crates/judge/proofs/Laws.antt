@@ -24,7 +24,7 @@ use Rattle.record.specs.Early.{read-early}
 use Rattle.legal.specs.Loop.{Loop, Pair, loopOf, pairOf}
 use Rattle.legal.specs.Systems.{knotted}
 use Rattle.legal.specs.Judging.{brokenEdge, overStep, unitsOf, rulesOf, judgeOf}
-use Rattle.legal.specs.Handed.{handed-none}
+use Rattle.legal.specs.Handed.{handed-none, handed-knot}
 use Rattle.knots.specs.Found.{KnotFound}
 use Rattle.judge.specs.declared.Judged.{Judged}
 use Rattle.judge.specs.Judgement.{Judgement, judgeRecord, RecordJudgement}
@@ -75,12 +75,7 @@ pub judged-knot : (f : Form) → f .length ≢ 0 → (c : Cycle) → KnotFound (
 unfolding judgeOf
 judged-knot f some c found l = record {
   refusal = sym (pick-false (eqb (f .length) 0) _ _ (ne-eqb _ _ some) ∙ pick-true (knotted (loopOf f)) _ _ (found .tied l));
-  handed = record {
-    knot = λ k. found .knot l;
-    impossible = λ k. let n : _≡_ {A = ℕ} 12 14 = ap numberOf k in absurd (omega arith);
-    none = λ k n. absurd (k refl);
-    filled = found .filled;
-  };
+  handed = handed-knot (loopOf f) (pairOf f) c (found .knot l) (found .tallies);
 }
 
 -- ---- a record

@@ -70,16 +70,14 @@ module _ (nodes edges : ℕ) (from to delays : List ℕ) (ends : Ends nodes edge
           none = λ z. t .none e;
           tied = λ p. absurd (omega (arith, p, ap (λ (c : Cycle). c .count) (t .none e)));
           knot = λ p. absurd (omega (arith, p, ap (λ (c : Cycle). c .count) (t .none e)));
-          few = omega (arith, t .few, ends .most);
-          filled = t .filled;
+          tallies = t .tallies;
         }
         go false e = record {
           free = λ z. absurd (omega (arith, z, t .some e));
           none = λ z. absurd (omega (arith, z, t .some e));
           tied = λ p. unknotted false e;
           knot = λ p. losing-knot g told-joined (omega (arith, told .all-nodes, ends .most)) _ (same-losing priced (knots g) held-knots _ (t .shortest e .losing));
-          few = omega (arith, t .few, ends .most);
-          filled = t .filled;
+          tallies = t .tallies;
         }
 
     -- and where there is none, the values rise along every edge of delay 0
@@ -90,5 +88,6 @@ module _ (nodes edges : ℕ) (from to delays : List ℕ) (ends : Ends nodes edge
         let same : r .values ≡ settledOf (knots g) .values = t .values ∙ ap (λ (x : Settled). x .values) (same-settled priced (knots g) held-knots) in
         record {
           found = f;
+          ranks = same;
           rises = λ z e l d. rw same (omega (arith, settled-solves (knots g) (not-false _ (f .free z)) e l, d));
         }

@@ -126,11 +126,12 @@ module _ (g : Loop) (p : Pair) where
       fitted-top = turned-top (limits g p) (s .few) (s .joined) (s .some) q
 
       -- starts in the body that keep the unit rule are legal with the retiming found
-      pub fitted-legal : Bodied g p → UnitRule g p → Legal g fittedPair
+      pub fitted-legal : (1 ≤ p .length) × (p .length ≤ 512) → Bodied g p → UnitRule g p → Legal g fittedPair
       unfolding lateness busy occupies
-      fitted-legal b units =
+      fitted-legal steps b units =
           let body : Bodied g fittedPair = λ v l. record { begins = b v l .begins; ends = b v l .ends } in
           record {
+            steps = steps;
             body = body;
             retimings = λ v l. omega (arith, fitted-depth v, depth-bound);
             least = fitted-zero;

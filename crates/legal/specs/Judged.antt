@@ -125,7 +125,7 @@ module _ (f : Form) (w : WellFormed f) where
   judge-accepts q =
       let t = told-none (loopOf f) (pairOf f) (told None q) in
       let s : Placed (loopOf f) (pairOf f) = placed-form f w (t .0) in
-      (t .0, record { body = s .body; retimings = s .retimings; least = s .least; edges = t .1; units = t .2 })
+      (t .0, record { steps = s .steps; body = s .body; retimings = s .retimings; least = s .least; edges = t .1; units = t .2 })
 
   -- a legal pair is accepted
   pub accepts-judge : f .length ≢ 0 → Legal (loopOf f) (pairOf f) → judgeOf f ≡ None

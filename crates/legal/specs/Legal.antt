@@ -38,7 +38,9 @@ module _ (g : Loop) (p : Pair) where
   abbrev pub UnitRule : Type 0
   UnitRule = (q c : ℕ) → 1 ≤ q → q ≤ p .length → c < g .classes → busy c q ≤ g .class c .units
 
+  -- a body of 1 to 512 steps in which every node starts and ends, retimings of 0 to 63 with 0 among them, and both rules
   pub record Legal : Type 0 where
+    pub steps : (1 ≤ p .length) × (p .length ≤ 512)
     pub body : (v : ℕ) → v < g .graph .nodes → InBody v
     pub retimings : (v : ℕ) → v < g .graph .nodes → p .retiming v ≤ 63
     pub least : (v : ℕ) × (v < g .graph .nodes) × (p .retiming v ≡ 0)

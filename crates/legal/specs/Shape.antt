@@ -3,6 +3,7 @@
 use mathlib.Core.Path.{_≡_}
 use mathlib.Core.Logic.{_≢_}
 use Prim.Native.Nat.{ℕ, _≤_, _<_}
+use native.Mathlib.Nat.{pos-of-ne-zero}
 use Rattle.form.specs.declared.Form.{Form}
 use Rattle.form.specs.Ranges.{WellFormed, GoodSchedule}
 use Rattle.system.specs.Graph.{Joined}
@@ -22,8 +23,9 @@ pub record Sound (g : Loop) : Type 0 where
 abbrev pub Bodied : Loop → Pair → Type 0
 Bodied g p = (v : ℕ) → v < g .graph .nodes → InBody g p v
 
--- starts in the body, retimings of at most 63, the smallest of them 0
+-- a body of 1 to 512 steps, starts in it, retimings of at most 63, the smallest of them 0
 pub record Placed (g : Loop) (p : Pair) : Type 0 where
+  pub steps : (1 ≤ p .length) × (p .length ≤ 512)
   pub body : Bodied g p
   pub retimings : (v : ℕ) → v < g .graph .nodes → p .retiming v ≤ 63
   pub least : (v : ℕ) × (v < g .graph .nodes) × (p .retiming v ≡ 0)
@@ -51,6 +53,7 @@ unfolding loopOf pairOf graphOf
 placed-form f w n =
     let s : GoodSchedule f = w .schedule n in
     record {
+      steps = (pos-of-ne-zero n, w .length);
       body = λ v l. record { begins = s .starts v l .begins; ends = s .starts v l .ends };
       retimings = λ v l. s .starts v l .retiming;
       least = s .least;

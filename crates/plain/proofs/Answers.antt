@@ -22,7 +22,7 @@ use Rattle.reader.specs.Reading.{readForm}
 use Rattle.legal.specs.Loop.{graphOf, loopOf, pairOf}
 use Rattle.legal.specs.Shape.{sound-form}
 use Rattle.legal.specs.Systems.{knotted}
-use Rattle.legal.specs.Handed.{Handed, handed-none}
+use Rattle.legal.specs.Handed.{Handed, handed-none, handed-knot}
 use Rattle.machine.specs.Unique.{Ranks}
 use Rattle.knots.specs.Found.{KnotFound}
 use Rattle.record.specs.Early.{read-early}
@@ -64,12 +64,7 @@ module _ (f : Form) (k : ℕ) (starts before : List ℕ) where
   unfolding plainOf fine
   looped-knot c found l = record {
     refusal = sym (pick-true (knotted (loopOf f)) _ _ (found .tied l));
-    handed = record {
-      knot = λ q. found .knot l;
-      impossible = λ q. let n : _≡_ {A = ℕ} 12 14 = ap numberOf q in absurd (omega arith);
-      none = λ q n. absurd (q refl);
-      filled = found .filled;
-    };
+    handed = handed-knot (loopOf f) (pairOf f) c (found .knot l) (found .tallies);
     done = λ q. both-ways q refl;
     untouched = λ q. refl;
   }

@@ -248,7 +248,7 @@ list-rule-places g r sound staffed ranked s m within l v h = rule-places g r sou
 
 module _ (f : Form) (w : WellFormed f) (legal : Legal (loopOf f) (pairOf f)) (z : ℕ) (one : 1 ≤ z) (below : z < f .length) (whole : length (f .start) ≡ 64) where
   -- a legal pair again, or more than 512 steps
-  pub rotation-legal : Legal (loopOf (rotated f z)) (pairOf (rotated f z))
+  pub rotation-legal : rotatedLength f z ≤ 512 → Legal (loopOf (rotated f z)) (pairOf (rotated f z))
   rotation-legal = rotations.rotated-form-legal f w legal z one below whole
 
   pub rotation-accepted : tooLong f z ≡ false → judgeOf (rotated f z) ≡ None

@@ -1,4 +1,5 @@
 pub mod Weight
 pub mod Tables
 pub mod Reached
+pub mod Others
 pub mod Marking

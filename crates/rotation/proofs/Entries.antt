@@ -27,7 +27,7 @@ use Rattle.record.specs.Read.{read-well-formed}
 use Rattle.record.specs.ReadHeld.{read-held}
 use Rattle.legal.specs.Loop.{loopOf, pairOf}
 use Rattle.legal.specs.Systems.{knotted}
-use Rattle.legal.specs.Handed.{Handed, handed-none}
+use Rattle.legal.specs.Handed.{Handed, handed-none, handed-knot}
 use Rattle.knots.specs.Found.{KnotFound}
 use Rattle.record.specs.Early.{read-early}
 use Rattle.rotation.specs.declared.Plan.{Plan}
@@ -166,12 +166,7 @@ module _ (f : Form) (k : Cycle) (found : KnotFound (loopOf f) k) where
     refusal = sym (pick-true (knotted (loopOf f)) _ _ (found .tied l));
     form = λ q. both-ways q refl;
     rotations = λ q. refl;
-    handed = record {
-      knot = λ _. found .knot l;
-      impossible = λ q. let z : _≡_ {A = ℕ} 12 14 = ap numberOf q in absurd (omega arith);
-      none = λ q _. absurd (q refl);
-      filled = found .filled;
-    };
+    handed = handed-knot (loopOf f) (pairOf f) k (found .knot l) (found .tallies);
   }
 
   pub first-planned : k .count ≤ 0 → (h : Form) → h ≡ firstForm f → Planned firstAsked firstForm unturned f (record { refusal = None; rotations = 0; cycle = k; form = h })

@@ -71,15 +71,15 @@ module _ (f : Form) (w : WellFormed f) (legal : Legal (loopOf f) (pairOf f)) (z 
   unfolding rotated withPair rotatedLength rotatedStarts pairOf
   rotated-form-some = turned-length (loopOf f) (pairOf f) z (startsOf f) (sound-form f w) legal (tabled f n) (staffed-form f w) one below (w .length) .0
 
-  -- its pair is legal
-  pub rotated-form-legal : Legal (loopOf (rotated f z)) (pairOf (rotated f z))
+  -- its pair is legal, unless it has more than 512 steps
+  pub rotated-form-legal : rotatedLength f z ≤ 512 → Legal (loopOf (rotated f z)) (pairOf (rotated f z))
   unfolding rotated withPair loopOf graphOf pairOf turnedBy rotatedStarts rotatedLength
-  rotated-form-legal =
+  rotated-form-legal short =
       let g : Loop = loopOf f in
       let q : Pair = turnedBy f z in
       let same : pairOf (rotated f z) ≡ retimedPair g q = λ i. record { start = λ v. step-at (rotatedStarts f z) v i; length = rotatedLength f z; retiming = λ v. getD (retimings g q) v 0 } in
       subst (Legal g) (sym same)
-      (retimings-legal g q (sound-form f w) settles
+      (retimings-legal g q (sound-form f w) settles (rotated-form-some, short)
       (turned-bodied g (pairOf f) z (startsOf f) (sound-form f w) legal (tabled f n) (staffed-form f w) one below (w .length) q (λ v l. refl) refl)
       (turned-unit-rule g (pairOf f) z (startsOf f) (sound-form f w) legal (tabled f n) (staffed-form f w) one below (w .length) q (λ v l. refl) refl))
 
@@ -113,7 +113,7 @@ module _ (f : Form) (w : WellFormed f) (legal : Legal (loopOf f) (pairOf f)) (z 
     pub rotated-judged : judgeOf (rotated f z) ≡ None
     rotated-judged =
         let some : rotated f z .length ≢ 0 = λ e. omega (arith, rotated-form-some) in
-        accepts-judge (rotated f z) rotated-well-formed some rotated-form-legal
+        accepts-judge (rotated f z) rotated-well-formed some (rotated-form-legal rotated-form-short)
 
     small-start : Held f → (v : ℕ) → v < 64 → startAt (rotatedStarts f z) v < 65536
     unfolding rotatedStarts turnedStarts rotatedLength loopOf graphOf

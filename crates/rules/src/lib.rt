@@ -33,6 +33,7 @@ pub fn broken_edge<'a>(
     times: Timetable,
 ) -> u16
     requires { ⌜ Ends (times .nodes) edges (now from) (now to) ⌝ }
+    requires { ⌜ ((g : Loop) × ((p : Pair) × Told g (times .nodes) edges (now from) (now to) (now delays) × Timed g p times)) ⌝ }
     ensures { λ r. ⌜ ((g : Loop) (p : Pair) → Told g (times .nodes) edges (now (from .entry)) (now (to .entry)) (now (delays .entry)) → Timed g p times → r ≡ brokenEdge g p) ⌝ }
 {
     let length = times.length;
@@ -108,6 +109,7 @@ fn spot(step: u16, class: u8) -> u32
 // Units with the lowest overfull step and its lowest class. A node of that class starts in it, or the step before would hold as much.
 pub fn crowded(times: Timetable) -> Refusal
     requires { ⌜ Sound times ⌝ }
+    requires { ⌜ ((g : Loop) × ((p : Pair) × Timed g p times × Seated g p)) ⌝ }
     ensures { λ r. ⌜ ((g : Loop) (p : Pair) → Timed g p times → Seated g p → r ≡ unitsOf g p) ⌝ }
 {
     let past = spot(times.length, 4);

@@ -7,7 +7,6 @@ use Prim.Native.Nat.{_≤_, _<_}
 use native.Mathlib.Nat.{eq-zero-or-pos}
 use native.Mathlib.Omega.{arith}
 use Rattle.answer.specs.declared.Cycle.{Cycle}
-use Rattle.lists.specs.Place.{zeros-at}
 use Rattle.system.specs.declared.Settled.{Settled}
 use Rattle.system.specs.Graph.{Joined}
 use Rattle.system.specs.System.{System}
@@ -15,6 +14,7 @@ use Rattle.system.specs.Rounds.{settledOf}
 use Rattle.system.specs.Laws.{unsettled-loses}
 use Rattle.cycle.specs.Found.{FoundCycle}
 use Rattle.answer.specs.Outcome.{noCycle}
+use Rattle.answer.specs.Tally.{none-tallies}
 use Rattle.solve.specs.Solved.{Solved}
 
 module _ (s : System) (t : Settled) (e : t ≡ settledOf s) where
@@ -26,7 +26,7 @@ module _ (s : System) (t : Settled) (e : t ≡ settledOf s) where
     shortest = λ q. absurd (true≢false q);
     some = λ q. absurd (true≢false q);
     few = rw z (omega arith);
-    filled = λ i h. rw z (zeros-at 64 i);
+    tallies = none-tallies c z;
   }
 
   pub when-unsettled : (c : Cycle) → t .settled ≡ false → Joined (s .graph) → 1 ≤ s .graph .nodes → s .graph .nodes ≤ 64 → FoundCycle s c
@@ -41,5 +41,5 @@ module _ (s : System) (t : Settled) (e : t ≡ settledOf s) where
         shortest = λ q. f .some some;
         some = λ q. some;
         few = f .few;
-        filled = f .rest;
+        tallies = f .tallies;
       }

@@ -3,7 +3,8 @@
 use mathlib.Core.Path.{_≡_}
 use mathlib.Core.Bool.{true, false}
 use Prim.Native.Nat.{_≤_, _<_}
-use Rattle.answer.specs.Outcome.{noCycle, edgesOf, Filled}
+use Rattle.answer.specs.Outcome.{noCycle, edgesOf}
+use Rattle.answer.specs.Tally.{Tallies}
 use Rattle.system.specs.System.{System, Shortest}
 use Rattle.system.specs.Rounds.{settledOf}
 use Rattle.solve.specs.declared.Solution.{Solution}
@@ -15,4 +16,4 @@ pub record Solved (s : System) (r : Solution) : Type 0 where
   pub shortest : r .settled ≡ false → Shortest s (edgesOf (r .cycle))
   pub some : r .settled ≡ false → 0 < r .cycle .count
   pub few : r .cycle .count ≤ s .graph .nodes
-  pub filled : Filled (r .cycle)
+  pub tallies : Tallies (r .cycle)

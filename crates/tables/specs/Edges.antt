@@ -5,6 +5,7 @@ use mathlib.Core.List.{List}
 use Prim.Native.Nat.{ℕ, _≤_, _<_}
 use lib.ListN.{getD}
 use Rattle.form.specs.declared.Form.{Form}
+use Rattle.form.specs.Places.{noClass, noNode}
 use Rattle.form.specs.Ranges.{WellFormed}
 use Rattle.legal.specs.Loop.{Loop, loopOf, graphOf}
 
@@ -44,3 +45,16 @@ told-form f = record {
   is-head = λ e l. refl;
   is-delay = λ e l. refl;
 }
+
+-- any tables are some loop's, so what is promised for each such loop is promised
+pub told-some : (nodes edges : ℕ) (from to delays : List ℕ) → (g : Loop) × Told g nodes edges from to delays
+told-some nodes edges from to delays = (
+  record {
+    graph = record { nodes = nodes; edges = edges; tail = λ e. getD from e 0; head = λ e. getD to e 0 };
+    delay = λ e. getD delays e 0;
+    classes = 0;
+    class = λ c. noClass;
+    node = λ v. noNode;
+  },
+  record { all-nodes = refl; all-edges = refl; is-tail = λ e l. refl; is-head = λ e l. refl; is-delay = λ e l. refl },
+)

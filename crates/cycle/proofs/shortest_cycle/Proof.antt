@@ -1,7 +1,6 @@
 -- `cycle::shortest_cycle` meets its contract: what the start and the walk tell of 64 nodes holds of the graph's own number.
 -- Assumes nothing.
 use native.Mathlib.Omega.{arith}
-use Rattle.lists.specs.Place.{zeros-at}
 use Rattle.cycle.specs.Among.{tables, none-found, cycle-found}
 use Rattle.cycle.proofs.shortest_cycle.Statement.{statement}
 use Rattle.cycle.proofs.shortest_cycle.Tie as tie
@@ -12,7 +11,7 @@ best-start-requires c κs = (tables _ _ _ _ _ _ (c .pre .0) (c .pre .1) (c .pre 
 returns : tie.Need-returns
 returns c =
     let b = c .before .before in
-    none-found _ _ _ _ _ _ _ _ _ (b .before .pre .2) (b .best-start .ensures) (c .if1 .taken) _ (zeros-at 64)
+    none-found _ _ _ _ _ _ _ _ _ (b .before .pre .2) (b .best-start .ensures) (c .if1 .taken)
 
 walk-of-requires : tie.Need-walk-of-requires
 walk-of-requires c κs =

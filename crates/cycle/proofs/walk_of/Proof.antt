@@ -6,6 +6,7 @@ use Prim.Native.Nat.{ℕ, _≤_, _<_, _+_, _-_}
 use lib.ListN.{length, getD, length-set}
 use native.Mathlib.Omega.{arith}
 use borrow.Author.Needs.{needs}
+use Rattle.answer.specs.Tally.{within-tallies}
 use Rattle.system.specs.System.{systemOf}
 use Rattle.cycle.specs.Walked.{Walked, walked-none, walked-all, walked-more, edge-in}
 use Rattle.cycle.specs.Row.{roof}
@@ -113,7 +114,7 @@ returns c =
     record {
       size = refl;
       losing = rw whole at (walked-all _ _ _ _ _ _ (rw none at (l .inv .3)));
-      rest = λ p q. l .inv .3 .rest p (omega arith);
+      tallies = within-tallies _ (omega arith) (l .inv .1) (λ p q. l .inv .3 .rest p (omega arith));
     }
 
 pub walk-of-spec : {M : Type 1} → statement M

@@ -59,7 +59,10 @@ returns-3 c f lent =
     (not-true _ (c .before .if3 .taken)) _)
 
 crowded-requires : tie.Need-crowded-requires
-crowded-requires c κs = let f = c .before .before .before .before .before .before .before .before .before .before .before .pre in lent-sound (f .0) _ _ _ _ _ (f .1)
+crowded-requires c κs =
+    let f = c .before .before .before .before .before .before .before .before .before .before .before .pre in
+    let some = some-length (f .0) _ (f .1 .timed) (c .before .before .before .before .before .before .before .before .before .if1 .left) in
+    (lent-sound (f .0) _ _ _ _ _ (f .1), (loopOf (f .0), (pairOf (f .0), f .1 .timed, seated-form (f .0) (f .1 .good) some)))
 
 returns-4 : tie.Need-returns-4
 returns-4 c f lent =

@@ -1,6 +1,7 @@
 -- `judge::judge_tables` meets its contract: no schedule, a knot, then the rules.
 -- Assumes nothing.
 use borrow.Author.Needs.{needs}
+use Rattle.legal.specs.Loop.{loopOf, pairOf}
 use Rattle.tables.specs.Times.{no-length, some-length}
 use Rattle.tables.specs.Lent.{lent-ends, lent-sound}
 use Rattle.rules.specs.Busy.{seated-form}
@@ -21,7 +22,7 @@ returns-2 : tie.Need-returns-2
 returns-2 c = λ f lent. judged-knot f (some-length f _ (lent .timed) (c .before .before .before .if1 .left)) _ (c .before .before .knot-of .ensures _ (lent .told)) (c .if2 .taken)
 
 broken-edge-requires : tie.Need-broken-edge-requires
-broken-edge-requires c κs = let f = c .before .before .before .before .before .pre in lent-ends (f .0) _ _ _ _ _ (f .1)
+broken-edge-requires c κs = let f = c .before .before .before .before .before .pre in (lent-ends (f .0) _ _ _ _ _ (f .1), (loopOf (f .0), (pairOf (f .0), f .1 .told, f .1 .timed)))
 
 cast-t12 : tie.Need-cast-t12
 cast-t12 c = search needs
@@ -35,7 +36,10 @@ returns-3 c = λ f lent.
     (edge-refused _ _ _ _ (lent .told .all-edges) (c .before .before .broken-edge .ensures _ _ (lent .told) (lent .timed)) (c .before .if3 .taken)) (c .alone2 .ensures .0) (c .alone2 .ensures .1)
 
 crowded-requires : tie.Need-crowded-requires
-crowded-requires c κs = let f = c .before .before .before .before .before .before .before .pre in lent-sound (f .0) _ _ _ _ _ (f .1)
+crowded-requires c κs =
+    let f = c .before .before .before .before .before .before .before .pre in
+    let some = some-length (f .0) _ (f .1 .timed) (c .before .before .before .before .before .if1 .left) in
+    (lent-sound (f .0) _ _ _ _ _ (f .1), (loopOf (f .0), (pairOf (f .0), f .1 .timed, seated-form (f .0) (f .1 .good) some)))
 
 alone-requires-3 : tie.Need-alone-requires-3
 alone-requires-3 c κs = search needs

@@ -5,12 +5,12 @@ use Prim.Native.Nat.{_+_, _-_, _≤_, _<_}
 use native.Mathlib.Omega.{arith}
 use lib.ListN.{getD}
 use borrow.Author.Needs.{needs}
-use Rattle.links.proofs.Laws.{Linked, linked-none, linked-more, linked-all}
+use Rattle.links.proofs.Laws.{LinkedFrom, linked-none, linked-more, linked-all}
 use Rattle.links.proofs.links_of.Statement.{statement}
 use Rattle.links.proofs.links_of.Tie as tie
 
 abbrev Inv-loop : tie.InvT-loop
-Inv-loop keys edges first₀ next₀ e₀ first next e = (e ≤ edges) × Linked (λ d. getD keys d 0) edges e first next
+Inv-loop keys edges first₀ next₀ e₀ first next e = (e ≤ edges) × LinkedFrom (λ d. getD keys d 0) edges e first next
 
 abbrev μ-loop : tie.MeasureT-loop
 μ-loop keys edges first₀ next₀ e₀ first next e = e
@@ -24,7 +24,7 @@ next-blank-requires c κs = search needs
 loop-holds : tie.Need-loop-holds Inv-loop μ-loop
 loop-holds c =
     let f = c .before .first-blank .ensures in
-    (omega arith, linked-none _ _ _ _ (f .0) (c .next-blank .ensures) (f .1))
+    (omega arith, linked-none _ _ _ _ (f .0) (c .next-blank .ensures .0) (f .1) (c .next-blank .ensures .1))
 
 sub-e : tie.Need-sub-e Inv-loop μ-loop
 sub-e c = search needs
@@ -69,7 +69,7 @@ loop-again c =
     let down : l .e ≡ l .e - 1 + 1 = omega arith in (
       omega arith,
       linked-more (λ d. getD (a .keys .now) d 0) (a .edges) (l .e - 1) (l .first) (l .next) (omega arith) (omega arith) (key-in c)
-          (subst (λ x. Linked (λ d. getD (a .keys .now) d 0) (a .edges) x (l .first) (l .next)) down (l .inv .1)),
+          (subst (λ x. LinkedFrom (λ d. getD (a .keys .now) d 0) (a .edges) x (l .first) (l .next)) down (l .inv .1)),
     )
 
 returns : tie.Need-returns Inv-loop μ-loop
@@ -78,7 +78,7 @@ returns c =
     let a = c .before .before .before .before .args in
     let end : l .e ≡ 0 = omega arith in
     linked-all (λ d. getD (a .keys .now) d 0) (a .edges) (l .first) (l .next)
-    (subst (λ x. Linked (λ d. getD (a .keys .now) d 0) (a .edges) x (l .first) (l .next)) end (l .inv .1))
+    (subst (λ x. LinkedFrom (λ d. getD (a .keys .now) d 0) (a .edges) x (l .first) (l .next)) end (l .inv .1))
 
 pub links-of-spec : {M : Type 1} → statement M
 links-of-spec = tie.close (tie.spec Inv-loop μ-loop first-blank-requires next-blank-requires loop-holds sub-e element-copy-out-key cast-key mul-next array-read-next mul-next-2 array-write-next cast-first mul-first array-write-first loop-less loop-again returns)

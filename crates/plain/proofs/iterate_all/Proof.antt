@@ -74,10 +74,11 @@ element-copy-out-value-of c = node-small (c .before)
 value-of-requires : tie.Need-value-of-requires Inv-loop μ-loop
 value-of-requires c κs =
     let s = c .before .before .before .before .before .before .before .before .before .before .before .before .before .before .before .before in
-    let links = c .before .before .before .before .before .before .before .before .before .before .before .links-of .ensures in (
+    let links = c .before .before .before .before .before .before .before .before .before .before .before .links-of .ensures .chains in (
       links-fit (s .args .t1) _ _ links (s .pre .0),
       record { for-starts = s .pre .1 .1 .0; for-values = row-in (c .before .before .before .before .before .before .before .before) },
       links-begin (s .args .t1) _ _ links _ (node-small (c .before .before .before .before .before .before .before .before)),
+      (loopOf (s .args .t1), (_, form-tells (s .args .t1), links-follow (s .args .t1) _ _ links _ (node-small (c .before .before .before .before .before .before .before .before)))),
     )
 
 add-values : tie.Need-add-values Inv-loop μ-loop
@@ -104,7 +105,7 @@ loop-again c =
     let s = c .before .before .before .before .before .before .before .before .before .before .before .before .before .before .before .before .before .before in
     let f = s .args .t1 in
     let l = c .before .before .before .before .before .before .before .before .before .before .before .before .loop in
-    let links = c .before .before .before .before .before .before .before .before .before .before .before .before .before .links-of .ensures in
+    let links = c .before .before .before .before .before .before .before .before .before .before .before .before .before .links-of .ensures .chains in
     let v = node (c .before .before .before .before .before .before .before .before .before .before) in
     rw (c .after .ensures) (come-more (loopOf f) (s .args .starts .now) (s .args .t2) (s .args .iterations) (f .nodes) (s .args .values .now) (l .turn) (l .values) (omega (arith, s .pre .1 .0 .0, s .pre .0 .nodes .1)) (c .before .before .before .before .before .before .before .before .before .before .if1 .taken) (l .inv) _
     (c .before .value-of .ensures (loopOf f) v (form-tells f) (links-follow f _ _ links v (node-small (c .before .before .before .before .before .before .before .before .before .before)))))

@@ -35,7 +35,7 @@ weight-of-requires : tie.Need-weight-of-requires Inv-loop μ-loop
 weight-of-requires c κs =
     let s = c .before .before .before .before .before .before .before .before in
     let w = s .before .before .before .before .pre in
-    (search needs, search needs, fits-form _ _ _ _ _ w (s .links-of .ensures) (λ e l. omega (arith, w .nodes, w .edge e l)))
+    (search needs, search needs, fits-form _ _ _ _ _ w (s .links-of .ensures .chains) (λ e l. omega (arith, w .nodes, w .edge e l)))
 
 cast-weights : tie.Need-cast-weights Inv-loop μ-loop
 cast-weights c = search needs
@@ -57,7 +57,7 @@ loop-again c =
       search needs,
       search needs,
       search needs,
-      fill-more _ _ (l .v) _ _ (omega arith) (weight-form _ (l .v) _ _ _ _ (start .before .pre) (s .links-of .ensures) (start .tights-of .ensures) (c .weight-of .ensures)) (l .inv .3),
+      fill-more _ _ (l .v) _ _ (omega arith) (weight-form _ (l .v) _ _ _ _ (start .before .pre) (s .links-of .ensures .chains) (start .tights-of .ensures) (c .weight-of .ensures)) (l .inv .3),
     )
 
 returns : tie.Need-returns Inv-loop μ-loop

@@ -38,12 +38,12 @@ element-copy-out-tail c = search needs
 -- an edge's nodes are places of the timetable
 tail-in : (c : tie.In-loop Inv-loop μ-loop) → getD (c .before .before .args .from .now) (c .before .before .args .edges - c .before .loop .left) 0 < 64
 tail-in c =
-    let w = c .before .before .pre in
+    let w = c .before .before .pre .0 in
     omega (arith, w .tail-in (c .before .before .args .edges - c .before .loop .left) (omega arith), w .most)
 
 head-in : (c : tie.In-loop Inv-loop μ-loop) → getD (c .before .before .args .to .now) (c .before .before .args .edges - c .before .loop .left) 0 < 64
 head-in c =
-    let w = c .before .before .pre in
+    let w = c .before .before .pre .0 in
     omega (arith, w .head-in (c .before .before .args .edges - c .before .loop .left) (omega arith), w .most)
 
 cast-tail : tie.Need-cast-tail Inv-loop μ-loop
@@ -112,7 +112,7 @@ sides : (c : tie.After-wide4 Inv-loop μ-loop) (g : Loop) (p : Pair)
     → Timed g p (c .before .before .before .before .before .before .before .before .before .before .before .before .before .before .before .before .args .t5)
     → Sides g p (c .before .before .before .before .before .before .before .before .before .before .before .before .before .before .before .before .args .edges - c .before .before .before .before .before .before .before .before .before .before .before .before .before .before .before .loop .left) (c .before .before .before .before .before .before .later .result) (c .before .before .later2 .result) (c .wide4 .result)
 sides c g p told timed =
-    sides-are g p _ _ _ _ _ (c .before .before .before .before .before .before .before .before .before .before .before .before .before .before .before .before .pre) told timed _ _ _ _ _ _ _ (omega arith) (c .before .before .before .before .before .before .before .before .before .before .wide .ensures .0) (c .before .before .before .before .before .before .before .before .wide2 .ensures .0) (c .before .before .before .wide3 .ensures .0) (c .before .before .before .before .before .before .later .ensures .0) (c .before .before .later2 .ensures .0) (c .wide4 .ensures .0)
+    sides-are g p _ _ _ _ _ (c .before .before .before .before .before .before .before .before .before .before .before .before .before .before .before .before .pre .0) told timed _ _ _ _ _ _ _ (omega arith) (c .before .before .before .before .before .before .before .before .before .before .wide .ensures .0) (c .before .before .before .before .before .before .before .before .wide2 .ensures .0) (c .before .before .before .wide3 .ensures .0) (c .before .before .before .before .before .before .later .ensures .0) (c .before .before .later2 .ensures .0) (c .wide4 .ensures .0)
 
 returns : tie.Need-returns Inv-loop μ-loop
 returns c = λ g p told timed. left-here _ _ _ _ (c .before .before .before .before .before .before .before .before .before .before .before .before .before .before .before .loop-test .taken) (c .before .before .before .before .before .before .before .before .before .before .before .before .before .before .before .before .loop .inv .0) (c .before .before .before .before .before .before .before .before .before .before .before .before .before .before .before .before .loop .inv .1 g p told timed) (edge-breaks _ _ _ _ _ _ (sides (c .before) g p told timed) (c .if1 .taken))

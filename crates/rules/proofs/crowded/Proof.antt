@@ -23,7 +23,7 @@ spot-requires : tie.Need-spot-requires Inv-loop μ-loop
 spot-requires c κs = search needs
 
 kind-below : (c : tie.In-loop Inv-loop μ-loop) → getD (c .before .before .before .args .t1 .kind) (c .before .loop .v) 0 < 4
-kind-below c = c .before .before .before .pre .class-in (c .before .loop .v) (c .loop-test .taken)
+kind-below c = c .before .before .before .pre .0 .class-in (c .before .loop .v) (c .loop-test .taken)
 
 loop-holds : tie.Need-loop-holds Inv-loop μ-loop
 loop-holds c = (search needs, λ g p timed. lowest-none g p (c .spot .result) (omega (arith, c .spot .ensures .0, timed .is-length)))
