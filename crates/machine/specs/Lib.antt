@@ -5,6 +5,7 @@ pub mod Worked
 pub mod Reads
 pub mod Unique
 pub mod Moments
+pub mod Through
 pub mod Visits
 pub mod Sofar
 pub mod Issued

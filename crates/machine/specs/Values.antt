@@ -44,6 +44,10 @@ edgesInto g v (suc left) e =
 abbrev pub incoming : Loop → ℕ → List ℕ
 incoming g v = edgesInto g v (g .graph .edges) 0
 
+-- what node u had in iteration i
+abbrev pub Reader : Type 0
+Reader = ℕ → ℕ → ℕ
+
 module _ (g : Loop) (starts : List ℕ) where
   -- the place of node v in iteration i
   abbrev pub placeOf : ℕ → ℕ → ℕ
@@ -53,12 +57,22 @@ module _ (g : Loop) (starts : List ℕ) where
   abbrev pub fromStart : ℕ → ℕ → Bool
   fromStart i e = ltb i (g .delay e)
 
-  -- what edge e hands to iteration i: node u at iteration -k stands at place 15 u + k - 1 of the start table
-  unfoldable pub operand : List ℕ → ℕ → ℕ → ℕ
-  operand values i e =
+  -- what edge e hands to iteration i, where `read` says what node u had in iteration j: node u at iteration -k stands at place 15 u + k - 1 of the start table
+  unfoldable pub operandBy : Reader → ℕ → ℕ → ℕ
+  operandBy read i e =
       pick (fromStart i e) (getD starts (15 * g .graph .tail e + (g .delay e - i) - 1) 0)
-      (getD values (placeOf (i - g .delay e) (g .graph .tail e)) 0)
+      (read (i - g .delay e) (g .graph .tail e))
 
-  -- what node v computes in iteration i, over the values given
-  unfoldable pub computed : List ℕ → ℕ → ℕ → ℕ
-  computed values i v = applied (g .node v .operation) (map (operand values i) (incoming g v))
+  -- what node v computes in iteration i
+  unfoldable pub computedBy : Reader → ℕ → ℕ → ℕ
+  computedBy read i v = applied (g .node v .operation) (map (operandBy read i) (incoming g v))
+
+  -- values of all iterations are a reader
+  abbrev pub buffer : List ℕ → Reader
+  buffer values i u = getD values (placeOf i u) 0
+
+  abbrev pub operand : List ℕ → ℕ → ℕ → ℕ
+  operand values = operandBy (buffer values)
+
+  abbrev pub computed : List ℕ → ℕ → ℕ → ℕ
+  computed values = computedBy (buffer values)

@@ -3,19 +3,16 @@
 use mathlib.Core.Path.{_≡_, sym, subst}
 use mathlib.Core.Bool.{true, false}
 use mathlib.Core.List.{List}
-use Prim.Native.Nat.{ℕ, zero, suc, _+_, _*_, _≤_, _<_}
-use native.Mathlib.Omega.{arith}
-use native.Mathlib.Nat.{add-zero, zero-add, add-suc, suc-mul, one-mul}
+use Prim.Native.Nat.{ℕ, suc, _+_, _*_, _≤_, _<_}
 use borrow.Author.Tests.{ltb-true, ltb-false}
 use lib.Dec.{ltb}
 use lib.ListN.{set}
 use Rattle.lists.specs.Pick.{pick, pick-ind, pick-true, pick-false}
-use Rattle.lists.specs.Span.{span}
-use Rattle.lists.specs.Fold.{fold, fold-snoc}
 use Rattle.answer.specs.Refused.{fine}
 use Rattle.answer.specs.declared.Refusal.{Refusal}
 use Rattle.answer.specs.declared.Refusal.the-variants.{None, Early, Busy}
 use Rattle.legal.specs.Loop.{Loop, Pair, runsOn, latency}
+use Rattle.machine.specs.Through.{stepBy, ranBy, through}
 use Rattle.machine.specs.Values.{placeOf, computed}
 use Rattle.machine.specs.Run.{Machine, issues, iteration, lateEdge, held, issue, visit, stepOf, ran}
 
@@ -70,18 +67,6 @@ module _ (g : Loop) (p : Pair) (starts : List ℕ) (k : ℕ) where
   -- what each visit keeps holds through the nodes of a step, and through the steps of a run
   module _ (Holds : ℕ → Machine → Type 0)
       (keep : (t v : ℕ) (m : Machine) → 1 ≤ t → v < g .graph .nodes → Holds (t * g .graph .nodes + v) m → Holds (suc (t * g .graph .nodes + v)) (visit g p starts k t m v)) where
-    through-nodes : (t j : ℕ) (m : Machine) → 1 ≤ t → j ≤ g .graph .nodes → Holds (t * g .graph .nodes) m
-        → Holds (t * g .graph .nodes + j) (fold (visit g p starts k t) m (span 0 j))
-    unfolding fold span
-    through-nodes t zero m one l h = rw add-zero h
-    through-nodes t (suc j) m one l h =
-        subst (λ (r : Machine). Holds (t * g .graph .nodes + suc j) r) (sym (fold-snoc (visit g p starts k t) m 0 j))
-        (rw (zero-add, add-suc) (keep t j _ one (omega arith) (through-nodes t j m one (omega arith) h)))
-
     pub through-steps : (n : ℕ) (m : Machine) → Holds (g .graph .nodes) m → Holds (suc n * g .graph .nodes) (ran g p starts k n m)
-    unfolding ran fold span stepOf
-    through-steps zero m h = rw one-mul h
-    through-steps (suc n) m h =
-        let one : 1 + n ≡ suc n = omega arith in
-        subst (λ (r : Machine). Holds (suc (suc n) * g .graph .nodes) r) (sym (fold-snoc (stepOf g p starts k) m 1 n))
-        (rw (one, suc-mul (suc n) (g .graph .nodes)) (through-nodes (suc n) (g .graph .nodes) _ (omega arith) (omega arith) (through-steps n m h)))
+    unfolding ran stepOf ranBy stepBy
+    through-steps = through (g .graph .nodes) (visit g p starts k) Holds keep

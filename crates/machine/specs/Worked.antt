@@ -12,7 +12,7 @@ use Rattle.answer.specs.Refused.{fine}
 use Rattle.answer.specs.declared.Refusal.the-variants.{None}
 use Rattle.legal.specs.Loop.{Pair, hold}
 use Rattle.list_rule.specs.Worked.{small}
-use Rattle.machine.specs.Values.{plus, minus, times, difference, applied, edgesInto, operand, computed}
+use Rattle.machine.specs.Values.{plus, minus, times, difference, applied, edgesInto, operandBy, computedBy}
 use Rattle.machine.specs.Run.{depth, issues, late, lateEdge, holds, held, issue, visit, stepOf, runSteps, ran, cleared, runOf}
 
 unfoldable pub smallPair : Pair
@@ -29,5 +29,5 @@ pub worked : (runOf small smallPair smallStarts 3 (replicate 9 7) (replicate 10 
     })
     × (runSteps small smallPair smallStarts 3 ≡ 8)
     × (runSteps small smallPair smallStarts 0 ≡ 2)
-unfolding small smallPair smallStarts pick span count fold top firstFrom fine hold plus minus times difference applied edgesInto operand computed depth issues late lateEdge holds held issue visit stepOf runSteps ran cleared runOf
+unfolding small smallPair smallStarts pick span count fold top firstFrom fine hold plus minus times difference applied edgesInto operandBy computedBy depth issues late lateEdge holds held issue visit stepOf runSteps ran cleared runOf
 worked = (refl, refl, refl)

@@ -12,7 +12,7 @@ use borrow.Author.Tests.{eq-eqb}
 use Rattle.links.specs.Chains.{firstWith, has-key}
 use Rattle.form.specs.declared.Operation.{Operation}
 use Rattle.legal.specs.Loop.{Loop}
-use Rattle.machine.specs.Values.{edgesInto, operand, computed}
+use Rattle.machine.specs.Values.{Reader, edgesInto, operandBy, computedBy, buffer, operand}
 use Rattle.operands.specs.Into.{into-first, into-here}
 use Rattle.operands.specs.Combined.{opening, combined, closing, finished, finished-applied}
 use Rattle.operands.specs.Tables.{handed, Tells, Follows}
@@ -38,18 +38,18 @@ back-in i d nodes u total l h = omega (arith, mul-le-mul-right {m = i - d} {n = 
 
 -- ---- a walk over the links
 
-module _ (g : Loop) (v : ℕ) (o : Operation) (starts values : List ℕ) (i : ℕ) where
+module _ (g : Loop) (v : ℕ) (o : Operation) (starts : List ℕ) (read : Reader) (i : ℕ) where
   abbrev operandsOf : List ℕ → List ℕ
-  operandsOf es = map (operand g starts values i) es
+  operandsOf es = map (operandBy g starts read i) es
 
   -- the walk has come to edge e, and the operands from there on finish the whole
   pub record Walking (e : ℕ) (begun : Bool) (total : ℕ) : Type 0 where
     pub into : e < g .graph .edges → g .graph .head e ≡ v
-    pub whole : finished o begun total (operandsOf (edgesInto g v (g .graph .edges - e) e)) ≡ computed g starts values i v
+    pub whole : finished o begun total (operandsOf (edgesInto g v (g .graph .edges - e) e)) ≡ computedBy g starts read i v
 
   module _ (first : ℕ) (next : List ℕ) (f : Follows g v o first next) where
     pub walking-first : Walking first false (opening o)
-    unfolding computed
+    unfolding computedBy
     walking-first = record {
       into = λ l. rw (f .is-first) (has-key (g .graph .head) v (g .graph .edges) 0 (omega (arith, f .is-first)));
       whole =
@@ -59,8 +59,8 @@ module _ (g : Loop) (v : ℕ) (o : Operation) (starts values : List ℕ) (i : �
     }
 
     -- one operand more
-    walking-next : (e total : ℕ) (begun : Bool) → e < g .graph .edges → Walking e begun total
-        → Walking (getD next e 0) true (combined o begun total (operand g starts values i e))
+    pub walking-next : (e total : ℕ) (begun : Bool) → e < g .graph .edges → Walking e begun total
+        → Walking (getD next e 0) true (combined o begun total (operandBy g starts read i e))
     unfolding finished
     walking-next e total begun l w =
         let left = g .graph .edges - (e + 1) in
@@ -75,7 +75,7 @@ module _ (g : Loop) (v : ℕ) (o : Operation) (starts values : List ℕ) (i : �
         }
 
     -- no edge is left
-    pub walking-end : (e total : ℕ) (begun : Bool) → e ≡ g .graph .edges → Walking e begun total → closing o total ≡ computed g starts values i v
+    pub walking-end : (e total : ℕ) (begun : Bool) → e ≡ g .graph .edges → Walking e begun total → closing o total ≡ computedBy g starts read i v
     unfolding edgesInto finished
     walking-end e total begun q w =
         let none : g .graph .edges - e ≡ 0 = omega arith in
@@ -84,15 +84,15 @@ module _ (g : Loop) (v : ℕ) (o : Operation) (starts values : List ℕ) (i : �
 -- what an edge hands over, by tables that tell it
 handed-operand : (g : Loop) (nodes edges : ℕ) (tails delays starts values : List ℕ) (i e : ℕ) → Tells g nodes edges tails delays → e < edges
     → handed nodes starts values i (getD tails e 0) (getD delays e 0) ≡ operand g starts values i e
-unfolding handed operand
+unfolding handed operandBy
 handed-operand g nodes edges tails delays starts values i e t l = rw (t .all-nodes, t .is-tail e l, t .is-delay e l)
 
 -- the walk goes on with the total that the tables give
 pub walking-on : (g : Loop) (v : ℕ) (o : Operation) (starts values : List ℕ) (i : ℕ) (first : ℕ) (next : List ℕ) → Follows g v o first next
-    → (nodes edges : ℕ) (tails delays : List ℕ) → Tells g nodes edges tails delays → (e total : ℕ) (begun : Bool) → e < edges → Walking g v o starts values i e begun total
+    → (nodes edges : ℕ) (tails delays : List ℕ) → Tells g nodes edges tails delays → (e total : ℕ) (begun : Bool) → e < edges → Walking g v o starts (buffer g starts values) i e begun total
     → (x : ℕ) → x ≡ handed nodes starts values i (getD tails e 0) (getD delays e 0) → (after : ℕ) → after ≡ combined o begun total x
-    → Walking g v o starts values i (getD next e 0) true after
+    → Walking g v o starts (buffer g starts values) i (getD next e 0) true after
 walking-on g v o starts values i first next f nodes edges tails delays t e total begun l w x is after so =
-    subst (Walking g v o starts values i (getD next e 0) true)
+    subst (Walking g v o starts (buffer g starts values) i (getD next e 0) true)
     (sym (so ∙ ap (combined o begun total) (is ∙ handed-operand g nodes edges tails delays starts values i e t l)))
-    (walking-next g v o starts values i first next f e total begun (omega (arith, t .all-edges)) w)
+    (walking-next g v o starts (buffer g starts values) i first next f e total begun (omega (arith, t .all-edges)) w)

@@ -1,4 +1,5 @@
 pub mod Order
+pub mod Repeats
 pub mod Repeat
 pub mod Tables
 pub mod Units

@@ -5,6 +5,7 @@ use Prim.Native.Nat.{ℕ, _-_, _≤_, _<_}
 use native.Mathlib.Omega.{arith}
 use borrow.Author.Needs.{needs}
 use Rattle.legal.specs.Loop.{Loop}
+use Rattle.machine.specs.Values.{buffer}
 use Rattle.operands.specs.Tables.{Tells, Follows}
 use Rattle.operands.proofs.Laws.{Walking, walking-first, walking-on, walking-end}
 use Rattle.operands.proofs.value_of.Statement.{statement}
@@ -13,7 +14,7 @@ use Rattle.operands.proofs.value_of.Tie as tie
 abbrev Inv-loop : tie.InvT-loop
 Inv-loop operation first nodes edges iteration from delays next starts values total₀ begun₀ e₀ total begun e =
     (e ≤ edges)
-    × ((g : Loop) (v : ℕ) → Tells g nodes edges from delays → Follows g v operation first next → Walking g v operation starts values (iteration .0) e begun total)
+    × ((g : Loop) (v : ℕ) → Tells g nodes edges from delays → Follows g v operation first next → Walking g v operation starts (buffer g starts values) (iteration .0) e begun total)
 
 abbrev μ-loop : tie.MeasureT-loop
 μ-loop operation first nodes edges iteration from delays next starts values total₀ begun₀ e₀ total begun e = edges - e
