@@ -2,25 +2,21 @@
 -- Assumes nothing.
 use mathlib.Core.Path.{_≡_, refl}
 use mathlib.Core.Bool.{Bool, true, false}
-use mathlib.Core.Logic.{⊎-elim}
 use mathlib.Core.List.{List}
-use Prim.Native.Nat.{ℕ, _≤_, _<_}
+use Prim.Native.Nat.{ℕ, _-_, _*_, _≤_, _<_}
 use native.Mathlib.Omega.{arith}
-use native.Mathlib.Nat.{mul-one}
+use native.Mathlib.Nat.{mul-le-mul-right}
 use Rattle.system.specs.System.{gains, costs, Losing}
 use Rattle.system.specs.Rounds.{settledOf}
 use Rattle.system.specs.Laws.{values-bound, unsettled-loses}
 use Rattle.system.specs.Turned.{topOf, turnedAt, turned-le, turned-zero, turned-top, turned-turns, least-depth, largest}
-use Rattle.legal.specs.Loop.{Loop, Pair}
-use Rattle.legal.specs.Legal.{occupies, busy, UnitRule, Legal}
+use Rattle.legal.specs.Loop.{reach, Loop, Pair}
+use Rattle.legal.specs.Legal.{busy, UnitRule, Legal}
 use Rattle.legal.specs.Systems.{lateness, limits, Fits, Impossible}
-use Rattle.legal.specs.Shape.{Sound, Bodied}
-use Rattle.legal.specs.Limits.{timed, fit-edges}
+use Rattle.legal.specs.Shape.{Sound, Bodied, Within, bodied-within}
+use Rattle.legal.specs.Limits.{late-bound, fit-edges}
 use Rattle.legal.specs.Splits.{losing-walk, losing-cycle}
 use Rattle.legal.specs.Balanced.{Balances, balanced-sound, balanced-settles}
-
-late-one : (g : Loop) (p : Pair) (e : ℕ) → lateness g p e ≤ 1
-late-one g p e = ⊎-elim (λ t. omega arith) (λ t. omega arith) (timed g p e)
 
 module _ (g : Loop) (p : Pair) where
   -- the depth and the retiming of the starts
@@ -32,7 +28,7 @@ module _ (g : Loop) (p : Pair) where
 
   -- the starts with that retiming
   abbrev pub fittedPair : Pair
-  fittedPair = record { start = p .start; length = p .length; retiming = fitted }
+  fittedPair = record { kind = p .kind; start = p .start; length = p .length; retiming = fitted }
 
   -- some retiming was found
   abbrev pub Settles : Type 0
@@ -99,17 +95,17 @@ module _ (g : Loop) (p : Pair) where
       unfolding limits
       fitted-fits = turned-turns (limits g p) (s .few) (s .joined) q
 
-      -- the depth is less than the number of nodes
-      pub depth-few : depth < g .graph .nodes
+      -- the depth never exceeds 63 for each body that an operation reaches into
+      pub depth-bound : (n : ℕ) → Within g p n → depth ≤ 63 * n
       unfolding limits turnedAt
-      depth-few =
+      depth-bound n b =
           let z = turned-zero (limits g p) (s .few) (s .some) in
-          let b = values-bound (limits g p) (s .joined) q 1 (λ e l. late-one g p e) (z .0) (z .1) in
-          omega (arith, z .2, rw mul-one at b, s .some)
-
-      -- the depth never exceeds 63
-      pub depth-bound : depth ≤ 63
-      depth-bound = omega (arith, depth-few, s .few)
+          omega (
+            arith,
+            z .2,
+            values-bound (limits g p) (s .joined) q n (λ e l. late-bound g p s n b e l) (z .0) (z .1),
+            mul-le-mul-right {m = g .graph .nodes - 1} {n = 63} n (omega (arith, s .few)),
+          )
 
       -- no node is retimed by more than the depth
       pub fitted-depth : (v : ℕ) → fitted v ≤ depth
@@ -127,14 +123,14 @@ module _ (g : Loop) (p : Pair) where
 
       -- starts in the body that keep the unit rule are legal with the retiming found
       pub fitted-legal : (1 ≤ p .length) × (p .length ≤ 512) → Bodied g p → UnitRule g p → Legal g fittedPair
-      unfolding lateness busy occupies
+      unfolding lateness busy
       fitted-legal steps b units =
           let body : Bodied g fittedPair = λ v l. record { begins = b v l .begins; ends = b v l .ends } in
           record {
             steps = steps;
             body = body;
-            retimings = λ v l. omega (arith, fitted-depth v, depth-bound);
+            retimings = λ v l. omega (arith, fitted-depth v, depth-bound (reach (p .kind)) (bodied-within g p s b));
             least = fitted-zero;
-            edges = fit-edges g fittedPair s body fitted-fits;
+            edges = fit-edges g fittedPair s (reach (p .kind)) (bodied-within g fittedPair s body) fitted-fits;
             units = units;
           }

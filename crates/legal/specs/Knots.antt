@@ -6,7 +6,7 @@ use mathlib.Core.Logic.{⊎-elim}
 use mathlib.Core.List.{List}
 use Prim.Native.Nat.{ℕ, _*_, _≤_}
 use native.Mathlib.Omega.{arith}
-use native.Mathlib.Nat.{eq-zero-or-pos, mul-one, mul-zero}
+use native.Mathlib.Nat.{eq-zero-or-pos, mul-zero}
 use borrow.Author.Tests.{not-true}
 use lib.ListN.{length}
 use Rattle.lists.specs.Fold.{sumOf, sum-times, sum-ones}
@@ -17,8 +17,8 @@ use Rattle.system.specs.Laws.{unsettled-loses, loses-unsettled}
 use Rattle.legal.specs.Loop.{Loop, Pair}
 use Rattle.legal.specs.Legal.{Knot}
 use Rattle.legal.specs.Systems.{knots, knotted, lateness, Impossible}
-use Rattle.legal.specs.Shape.{Sound, Bodied}
-use Rattle.legal.specs.Limits.{timed}
+use Rattle.legal.specs.Shape.{Sound, Within}
+use Rattle.legal.specs.Limits.{late-covers}
 use Rattle.legal.specs.Splits.{losing-cycle, cycle-few}
 
 -- the loop has no knot
@@ -77,23 +77,15 @@ module _ (g : Loop) where
   climbs : Pair → System
   climbs p = record { graph = g .graph; gain = λ e. p .length * lateness g p e; cost = λ e. 1 }
 
-  starts-climb : (p : Pair) → Sound g → Bodied g p → Solves (climbs p) (p .start)
+  starts-climb : (p : Pair) → Sound g → (n : ℕ) → Within g p n → Solves (climbs p) (p .start)
   unfolding climbs
-  starts-climb p s b e l =
-      let u = s .joined .tails e l in
-      let works = s .works _ u in
-      let tail = b _ u in
-      let head = b _ (s .joined .heads e l) in
-      ⊎-elim
-      (λ t. omega arith)
-      (λ t. omega (arith, ap (λ (k : ℕ). p .length * k) (t .0) ∙ mul-one (p .length)))
-      (timed g p e)
+  starts-climb p s n b e l = omega (arith, s .works _ (s .joined .tails e l), late-covers g p s n b e l)
 
   -- every knot has a negative limit sum, whatever the starts in the body
-  pub knot-impossible : (p : Pair) → Sound g → Bodied g p → (es : List ℕ) → Knot g es → Impossible g p es
+  pub knot-impossible : (p : Pair) → Sound g → (n : ℕ) → Within g p n → (es : List ℕ) → Knot g es → Impossible g p es
   unfolding climbs gains costs
-  knot-impossible p s b es k =
-      let c = along (climbs p) (p .start) (starts-climb p s b) (stop (g .graph) es 0) es (stop (g .graph) es 0) (k .cycle .closed) in
+  knot-impossible p s n b es k =
+      let c = along (climbs p) (p .start) (starts-climb p s n b) (stop (g .graph) es 0) es (stop (g .graph) es 0) (k .cycle .closed) in
       record {
         cycle = k .cycle;
         negative = ⊎-elim

@@ -1,4 +1,6 @@
 pub mod Loop
+pub mod Held
+pub mod Columns
 pub mod Legal
 pub mod Systems
 pub mod Judging
@@ -12,3 +14,4 @@ pub mod Paced
 pub mod Fitted
 pub mod Ruled
 pub mod Judged
+pub mod Busy

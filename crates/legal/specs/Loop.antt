@@ -18,8 +18,24 @@ pub record Loop : Type 0 where
   pub class : ℕ → Class
   pub node : ℕ → Node
 
+-- a schedule is plain, its operations ending in the body, or wrapped
+pub data Kind : Type 0 where
+  plain : Kind
+  wrapped : Kind
+
+-- how many steps of an operation of latency t must lie in the body: all of a plain pair's, the first of a wrapped one's
+unfoldable pub within : Kind → ℕ → ℕ
+within plain t = t
+within wrapped t = 1
+
+-- how many bodies an operation reaches into at most
+unfoldable pub reach : Kind → ℕ
+reach plain = 1
+reach wrapped = 8
+
 -- starts, length and retimings
 pub record Pair : Type 0 where
+  pub kind : Kind
   pub start : ℕ → ℕ
   pub length : ℕ
   pub retiming : ℕ → ℕ
@@ -53,4 +69,4 @@ loopOf f = record {
 }
 
 unfoldable pub pairOf : Form → Pair
-pairOf f = record { start = startOf f; length = f .length; retiming = retimingOf f }
+pairOf f = record { kind = plain; start = startOf f; length = f .length; retiming = retimingOf f }

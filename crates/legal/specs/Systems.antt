@@ -2,9 +2,7 @@
 -- Assumes nothing.
 use mathlib.Core.Bool.{Bool, not}
 use mathlib.Core.List.{List}
-use Prim.Native.Nat.{ℕ, _+_, _*_, _≤_, _<_}
-use lib.Dec.{leb}
-use Rattle.lists.specs.Pick.{pick}
+use Prim.Native.Nat.{ℕ, _+_, _-_, _*_, _/_, _≤_, _<_}
 use Rattle.lists.specs.Fold.{sumOf}
 use Rattle.system.specs.Graph.{Cycle}
 use Rattle.system.specs.System.{System}
@@ -19,9 +17,9 @@ knots g = record { graph = g .graph; gain = λ e. 64 * g .delay e; cost = λ e. 
 unfoldable pub knotted : Loop → Bool
 knotted g = not (settledOf (knots g) .settled)
 
--- an edge's limit is its delays less this: 0 where the tail is finished when the head starts, else 1
+-- an edge's limit is its delays less this: s(u) + t(u) - s(v) over the length, rounded up
 unfoldable pub lateness : Loop → Pair → ℕ → ℕ
-lateness g p e = pick (leb (finish g p (g .graph .tail e)) (p .start (g .graph .head e))) 0 1
+lateness g p e = (finish g p (g .graph .tail e) + (p .length - 1) - p .start (g .graph .head e)) / p .length
 
 -- r(v) - r(u) is at most the edge's limit
 unfoldable pub limits : Loop → Pair → System

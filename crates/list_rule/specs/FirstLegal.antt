@@ -9,10 +9,10 @@ use native.Mathlib.Nat.{mul-le-mul-left}
 use borrow.Author.Tests.{not-false, eqb-true, eqb-false}
 use lib.ListN.{replicate}
 use Rattle.system.specs.Laws.{settledAt, settled-solves}
-use Rattle.legal.specs.Loop.{Loop, Pair}
+use Rattle.legal.specs.Loop.{plain, within, reach, Loop, Pair}
 use Rattle.legal.specs.Legal.{Legal, EdgeRule}
 use Rattle.legal.specs.Systems.{knots, knotted}
-use Rattle.legal.specs.Shape.{Sound}
+use Rattle.legal.specs.Shape.{Sound, Bodied}
 use Rattle.reach.specs.Weight.{tight}
 use Rattle.list_rule.specs.Rule.{startAt, listRule, lengthOf}
 use Rattle.list_rule.specs.Units.{zeros-units, in-use-busy}
@@ -30,7 +30,7 @@ unfoldable pub firstStarts : Loop → List ℕ
 firstStarts g = listRule g unretimed (replicate 64 0)
 
 unfoldable pub firstPair : Loop → Pair
-firstPair g = record { start = startAt (firstStarts g); length = lengthOf g (firstStarts g); retiming = unretimed }
+firstPair g = record { kind = plain; start = startAt (firstStarts g); length = lengthOf g (firstStarts g); retiming = unretimed }
 
 -- without a knot, edges of delay 0 go up in the values that the system of knots settles at
 pub unknotted-ranked : (g : Loop) → knotted g ≡ false → Ranked g unretimed
@@ -66,14 +66,18 @@ module _ (g : Loop) (sound : Sound g) (staffed : Staffed g) (free : knotted g �
             first-filled .placed (g .graph .head e) (sound .joined .heads e l),
           )
 
+  first-bodied : Bodied g (firstPair g)
+  unfolding firstPair firstStarts within
+  first-bodied v l = record { begins = first-filled .placed v l; ends = length-ends g (firstStarts g) v l }
+
   -- the first schedule is legal
   pub first-legal : Legal g (firstPair g)
-  unfolding firstPair firstStarts
+  unfolding firstPair firstStarts within reach
   first-legal = record {
     steps = first-length;
-    body = λ v l. record { begins = first-filled .placed v l; ends = length-ends g (firstStarts g) v l };
+    body = first-bodied;
     retimings = λ v l. omega arith;
     least = (0, sound .some, refl);
     edges = first-edge;
-    units = λ q c a b d. omega (arith, in-use-busy g (firstStarts g) (firstPair g) (first-filled .placed) (λ v l. refl) c q, zeros-units g unretimed 64 c q);
+    units = λ q c a b d. omega (arith, in-use-busy g (firstStarts g) (firstPair g) sound refl first-bodied (first-filled .placed) (λ v l. refl) c q, zeros-units g unretimed 64 c q);
   }

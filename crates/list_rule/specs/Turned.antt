@@ -9,9 +9,9 @@ use native.Mathlib.Omega.{arith}
 use borrow.Author.Tests.{leb-true, leb-false, eqb-true}
 use lib.Dec.{leb}
 use Rattle.lists.specs.Pick.{pick, pick-true, pick-false}
-use Rattle.legal.specs.Loop.{Loop, Pair, latency}
+use Rattle.legal.specs.Loop.{plain, Loop, Pair, latency}
 use Rattle.legal.specs.Legal.{Legal}
-use Rattle.legal.specs.Shape.{Sound}
+use Rattle.legal.specs.Shape.{Sound, bodied-within, plain-ends}
 use Rattle.legal.specs.Limits.{LimitRule, edges-fit, timed}
 use Rattle.reach.specs.Weight.{tight}
 use Rattle.list_rule.specs.Rule.{startAt}
@@ -62,10 +62,10 @@ dropped-at z [] v = omega arith
 dropped-at z (a ∷ s) zero = refl
 dropped-at z (a ∷ s) (suc v) = dropped-at z s v
 
-module _ (g : Loop) (p : Pair) (z : ℕ) (sound : Sound g) (legal : Legal g p) where
+module _ (g : Loop) (p : Pair) (z : ℕ) (sound : Sound g) (is-plain : p .kind ≡ plain) (legal : Legal g p) where
   -- the limits that a legal pair keeps
   limit : (e : ℕ) → e < g .graph .edges → LimitRule g p e
-  limit e l = edges-fit g p sound (legal .body) (legal .edges) e l
+  limit e l = edges-fit g p sound _ (bodied-within g p sound (legal .body)) (legal .edges) e l
 
   -- no retimed delay is negative after the gain
   pub turned-over : (e : ℕ) → e < g .graph .edges → gainedBy p z (g .graph .head e) ≤ g .delay e + gainedBy p z (g .graph .tail e)
@@ -75,7 +75,7 @@ module _ (g : Loop) (p : Pair) (z : ℕ) (sound : Sound g) (legal : Legal g p) w
       (λ u. ⊎-elim (λ v. omega (arith, k, u .gain, v .gain)) (λ v. omega (arith, k, u .gain, v .gain)) (turns-or-stays p z (g .graph .head e)))
       (λ u.
       ⊎-elim
-      (λ v. ⊎-elim (λ w. absurd (omega (arith, u .late, v .early, w .1))) (λ w. omega (arith, k, w .0, u .gain, v .gain)) (timed g p e))
+      (λ v. ⊎-elim (λ w. absurd (omega (arith, u .late, v .early, w .1))) (λ w. omega (arith, k, w .0, u .gain, v .gain)) (timed g p sound is-plain (legal .body) e l))
       (λ v. omega (arith, k, u .gain, v .gain))
       (turns-or-stays p z (g .graph .head e)))
       (turns-or-stays p z (g .graph .tail e))
@@ -93,7 +93,7 @@ module _ (g : Loop) (p : Pair) (z : ℕ) (sound : Sound g) (legal : Legal g p) w
       → p .start (g .graph .tail e) + latency g (g .graph .tail e) ≤ p .start (g .graph .head e)
   in-time e l q =
       let k = limit e l in
-      ⊎-elim (λ w. w .1) (λ w. absurd (omega (arith, k, q, w .0))) (timed g p e)
+      ⊎-elim (λ w. w .1) (λ w. absurd (omega (arith, k, q, w .0))) (timed g p sound is-plain (legal .body) e l)
 
   -- so is one between two nodes that stay
   pub stays-in-time : (e : ℕ) → e < g .graph .edges → tight g (gainedBy p z) e ≡ true → Stays p z (g .graph .tail e) → Stays p z (g .graph .head e)
@@ -109,7 +109,7 @@ module _ (g : Loop) (p : Pair) (z : ℕ) (sound : Sound g) (legal : Legal g p) w
   rises e l t =
       let q : g .delay e + gainedBy p z (g .graph .tail e) ≡ gainedBy p z (g .graph .head e) = eqb-true _ _ t in
       let works = sound .works (g .graph .tail e) (sound .joined .tails e l) in
-      let ends = legal .body (g .graph .tail e) (sound .joined .tails e l) .ends in
+      let ends = plain-ends g p is-plain (g .graph .tail e) (legal .body (g .graph .tail e) (sound .joined .tails e l)) in
       let begins = legal .body (g .graph .head e) (sound .joined .heads e l) .begins in
       ⊎-elim
       (λ u.

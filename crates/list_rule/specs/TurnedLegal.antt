@@ -14,10 +14,11 @@ use Rattle.lists.specs.Both.{both-and}
 use Rattle.lists.specs.Fold.{fold}
 use Rattle.lists.specs.Place.{set-view}
 use Rattle.lists.specs.Count.{count-le, count-some}
-use Rattle.legal.specs.Loop.{Loop, Pair, runsOn, latency, hold}
-use Rattle.legal.specs.Legal.{Legal, UnitRule, occupies, busy}
+use Rattle.legal.specs.Loop.{plain, within, Loop, Pair, runsOn, latency, hold}
+use Rattle.legal.specs.Legal.{Legal, UnitRule, busy}
 use Rattle.legal.specs.Systems.{lateness, Fits}
-use Rattle.legal.specs.Shape.{Sound, Bodied}
+use Rattle.legal.specs.Shape.{Sound, Bodied, plain-ends}
+use Rattle.legal.specs.Busy.{spans, busy-plain}
 use Rattle.legal.specs.Limits.{timed}
 use Rattle.legal.specs.Fitted.{Settles, fits-settles, fittedPair, fitted-legal}
 use Rattle.reach.specs.Weight.{tight, weight}
@@ -63,7 +64,7 @@ turnedStarts g p z s = listRule g (gainedBy p z) (droppedBy z s)
 
 -- the pair that they make, with the retimings after the gain
 unfoldable pub turnedPair : Loop → Pair → ℕ → List ℕ → Pair
-turnedPair g p z s = record { start = startAt (turnedStarts g p z s); length = lengthOf g (turnedStarts g p z s); retiming = gainedBy p z }
+turnedPair g p z s = record { kind = plain; start = startAt (turnedStarts g p z s); length = lengthOf g (turnedStarts g p z s); retiming = gainedBy p z }
 
 -- and with the retiming fitted afresh
 unfoldable pub rotated : Loop → Pair → ℕ → List ℕ → Pair
@@ -74,16 +75,16 @@ pub record Tabled (g : Loop) (p : Pair) (s : List ℕ) : Type 0 where
   pub long : length s ≡ 64
   pub is : (v : ℕ) → v < g .graph .nodes → startAt s v ≡ p .start v
 
-module _ (g : Loop) (p : Pair) (z : ℕ) (s : List ℕ) (sound : Sound g) (legal : Legal g p) (tabled : Tabled g p s) where
+module _ (g : Loop) (p : Pair) (z : ℕ) (s : List ℕ) (sound : Sound g) (is-plain : p .kind ≡ plain) (legal : Legal g p) (tabled : Tabled g p s) where
   -- the table after the drop
   dropped : (v : ℕ) → v < g .graph .nodes → startAt (droppedBy z s) v ≡ p .start v - z
   dropped v l = omega (arith, dropped-at z s v, tabled .is v l)
 
-  within : z < p .length → Within g (droppedBy z s) (p .length - z)
+  dropped-within : z < p .length → Within g (droppedBy z s) (p .length - z)
   unfolding droppedBy
-  within below = record {
+  dropped-within below = record {
     long = omega (arith, length-map s (λ a. a - z), tabled .long, sound .few);
-    ends = λ v l h. omega (arith, dropped v l, legal .body v l .ends);
+    ends = λ v l h. omega (arith, dropped v l, plain-ends g p is-plain v (legal .body v l));
   }
 
   -- the table after the rotation is as long
@@ -100,7 +101,7 @@ module _ (g : Loop) (p : Pair) (z : ℕ) (s : List ℕ) (sound : Sound g) (legal
   pub turned-filled : Staffed g → 1 ≤ z → z < p .length → p .length ≤ 512 → Filled g (turnedStarts g p z s) (p .length - z + work g (droppedBy z s))
   unfolding turnedStarts
   turned-filled staffed one below short =
-      rule-places g (gainedBy p z) sound staffed (turned-ranked g p z sound legal) (droppedBy z s) (p .length - z) (within below) (omega arith)
+      rule-places g (gainedBy p z) sound staffed (turned-ranked g p z sound is-plain legal) (droppedBy z s) (p .length - z) (dropped-within below) (omega arith)
 
   -- a node that stays starts z steps earlier
   pub turned-stays : (v : ℕ) → v < g .graph .nodes → z < p .start v → startAt (turnedStarts g p z s) v ≡ p .start v - z
@@ -116,8 +117,8 @@ module _ (g : Loop) (p : Pair) (z : ℕ) (s : List ℕ) (sound : Sound g) (legal
   hold-le v l = pick-ind (λ x. x ≤ latency g v) _ (latency g v) 1 (λ e. omega arith) (λ e. sound .works v l)
 
   -- what is in use at q was occupied at q + z
-  uses-occupies : (c q v : ℕ) → v < g .graph .nodes → uses g (droppedBy z s) c q v ≡ true → occupies g p c (q + z) v ≡ true
-  unfolding occupies
+  uses-occupies : (c q v : ℕ) → v < g .graph .nodes → uses g (droppedBy z s) c q v ≡ true → spans g p c (q + z) v ≡ true
+  unfolding spans
   uses-occupies c q v l e =
       let o = uses-told g (droppedBy z s) c q v e in
       let d = dropped v l in
@@ -129,17 +130,18 @@ module _ (g : Loop) (p : Pair) (z : ℕ) (s : List ℕ) (sound : Sound g) (legal
   uses-within : (c q v : ℕ) → v < g .graph .nodes → uses g (droppedBy z s) c q v ≡ true → q + z ≤ p .length
   uses-within c q v l e =
       let o = uses-told g (droppedBy z s) c q v e in
-      omega (arith, dropped v l, o .placed, o .until, ap (λ (d : ℕ). hold (g .class d)) (o .class), hold-le v l, legal .body v l .ends)
+      omega (arith, dropped v l, o .placed, o .until, ap (λ (d : ℕ). hold (g .class d)) (o .class), hold-le v l, plain-ends g p is-plain v (legal .body v l))
 
   -- the nodes that stay keep the unit rule
   dropped-units : (c q : ℕ) → c < g .classes → 1 ≤ q → Kept g c q (droppedBy z s)
-  unfolding inUse busy
+  unfolding inUse
   dropped-units c q lc one =
       elim (ℕ-discrete (inUse g (droppedBy z s) c q) 0) [
         | yes k ↦ omega arith
         | no k ↦
             let w = count-some (uses g (droppedBy z s) c q) (g .graph .nodes) (omega arith) in
-            let more : inUse g (droppedBy z s) c q ≤ busy g p c (q + z) = count-le (uses g (droppedBy z s) c q) (occupies g p c (q + z)) (g .graph .nodes) (λ v l e. uses-occupies c q v l e) in
+            let more : inUse g (droppedBy z s) c q ≤ busy g p c (q + z) =
+            omega (arith, busy-plain g p sound is-plain (legal .body) c (q + z), count-le (uses g (droppedBy z s) c q) (spans g p c (q + z)) (g .graph .nodes) (λ v l e. uses-occupies c q v l e)) in
             let most : busy g p c (q + z) ≤ g .class c .units = legal .units (q + z) c (omega arith) (uses-within c q (w .0) (w .1) (w .2)) lc in
             omega (arith, more, most)
       ]
@@ -157,12 +159,12 @@ module _ (g : Loop) (p : Pair) (z : ℕ) (s : List ℕ) (sound : Sound g) (legal
       let du = dropped (g .graph .tail e) (sound .joined .tails e l) in
       let dv = dropped (g .graph .head e) (sound .joined .heads e l) in
       ⊎-elim
-      (λ u. let v = tight-turns g p z sound legal e l t u in absurd (omega (arith, h, dv, v .early)))
+      (λ u. let v = tight-turns g p z sound is-plain legal e l t u in absurd (omega (arith, h, dv, v .early)))
       (λ u.
       ⊎-elim
       (λ v. absurd (omega (arith, h, dv, v .early)))
       (λ v.
-      let k = stays-in-time g p z sound legal e l t u v in
+      let k = stays-in-time g p z sound is-plain legal e l t u v in
       record { placed = omega (arith, du, u .late); by = omega (arith, du, dv, u .late, v .late, k) })
       (turns-or-stays p z (g .graph .head e)))
       (turns-or-stays p z (g .graph .tail e))
@@ -183,41 +185,42 @@ module _ (g : Loop) (p : Pair) (z : ℕ) (s : List ℕ) (sound : Sound g) (legal
         (w .0, omega (arith, w .1, work-bound g (droppedBy z s) 8 (sound .short), sound .few))
 
     module _ (q : Pair) (same : (v : ℕ) → v < g .graph .nodes → q .start v ≡ startAt (turnedStarts g p z s) v) where
-      -- the retimings after the gain fit the starts
-      pub turned-fits : Fits g q (gainedBy p z)
-      unfolding tight
-      turned-fits e l = go (tight g (gainedBy p z) e) refl
-        where
-          go : (b : Bool) → tight g (gainedBy p z) e ≡ b → gainedBy p z (g .graph .head e) + lateness g q e ≤ gainedBy p z (g .graph .tail e) + g .delay e
-          go true t =
-              let lu = sound .joined .tails e l in
-              let lv = sound .joined .heads e l in
-              let f = turned-in-time e l t (filled .placed (g .graph .head e) lv) in
-              ⊎-elim
-              (λ w. omega (arith, w .0, turned-over g p z sound legal e l))
-              (λ w. absurd (omega (arith, w .1, f .by, same (g .graph .tail e) lu, same (g .graph .head e) lv)))
-              (timed g q e)
-          go false t =
-              let over = turned-over g p z sound legal e l in
-              let loose : g .delay e + gainedBy p z (g .graph .tail e) ≡ gainedBy p z (g .graph .head e) → ⊥ = eqb-false _ _ t in
-              let more : gainedBy p z (g .graph .head e) < g .delay e + gainedBy p z (g .graph .tail e) = omega arith in
-              ⊎-elim (λ w. omega (arith, w .0, more)) (λ w. omega (arith, w .0, more)) (timed g q e)
-
-      -- so a retiming is found
-      pub turned-settles : Settles g q
-      turned-settles = fits-settles g q sound (gainedBy p z) turned-fits
-
-      module _ (long : q .length ≡ lengthOf g (turnedStarts g p z s)) where
+      module _ (kind : q .kind ≡ plain) (long : q .length ≡ lengthOf g (turnedStarts g p z s)) where
         -- every node starts in the body and ends in it
         pub turned-bodied : Bodied g q
+        unfolding within
         turned-bodied v l = record {
           begins = omega (arith, same v l, filled .placed v l);
-          ends = omega (arith, same v l, long, length-ends g (turnedStarts g p z s) v l);
+          ends = rw kind (omega (arith, same v l, long, length-ends g (turnedStarts g p z s) v l));
         }
+
+        -- the retimings after the gain fit the starts
+        pub turned-fits : Fits g q (gainedBy p z)
+        unfolding tight
+        turned-fits e l = go (tight g (gainedBy p z) e) refl
+          where
+            go : (b : Bool) → tight g (gainedBy p z) e ≡ b → gainedBy p z (g .graph .head e) + lateness g q e ≤ gainedBy p z (g .graph .tail e) + g .delay e
+            go true t =
+                let lu = sound .joined .tails e l in
+                let lv = sound .joined .heads e l in
+                let f = turned-in-time e l t (filled .placed (g .graph .head e) lv) in
+                ⊎-elim
+                (λ w. omega (arith, w .0, turned-over g p z sound is-plain legal e l))
+                (λ w. absurd (omega (arith, w .1, f .by, same (g .graph .tail e) lu, same (g .graph .head e) lv)))
+                (timed g q sound kind turned-bodied e l)
+            go false t =
+                let over = turned-over g p z sound is-plain legal e l in
+                let loose : g .delay e + gainedBy p z (g .graph .tail e) ≡ gainedBy p z (g .graph .head e) → ⊥ = eqb-false _ _ t in
+                let more : gainedBy p z (g .graph .head e) < g .delay e + gainedBy p z (g .graph .tail e) = omega arith in
+                ⊎-elim (λ w. omega (arith, w .0, more)) (λ w. omega (arith, w .0, more)) (timed g q sound kind turned-bodied e l)
+
+        -- so a retiming is found
+        pub turned-settles : Settles g q
+        turned-settles = fits-settles g q sound (gainedBy p z) turned-fits
 
         pub turned-unit-rule : UnitRule g q
         turned-unit-rule k c a b lc =
-            omega (arith, in-use-busy g (turnedStarts g p z s) q (filled .placed) same c k, turned-units c k lc a)
+            omega (arith, in-use-busy g (turnedStarts g p z s) q sound kind turned-bodied (filled .placed) same c k, turned-units c k lc a)
 
         -- with the retiming found the rotated pair is legal, unless it is too long
         pub turned-legal : q .length ≤ 512 → Legal g (fittedPair g q)
@@ -227,12 +230,12 @@ module _ (g : Loop) (p : Pair) (z : ℕ) (s : List ℕ) (sound : Sound g) (legal
 
     pub rotated-settles : Settles g (turnedPair g p z s)
     unfolding turnedPair
-    rotated-settles = turned-settles (turnedPair g p z s) (λ v l. refl)
+    rotated-settles = turned-settles (turnedPair g p z s) (λ v l. refl) refl refl
 
     -- rotation of a legal pair gives a legal pair, unless that has more than 512 steps
     pub rotated-legal : lengthOf g (turnedStarts g p z s) ≤ 512 → Legal g (rotated g p z s)
     unfolding rotated turnedPair
-    rotated-legal short = turned-legal (turnedPair g p z s) (λ v l. refl) refl short
+    rotated-legal short = turned-legal (turnedPair g p z s) (λ v l. refl) refl refl short
 
     -- whose starts the table holds
     pub rotated-tabled : Tabled g (rotated g p z s) (turnedStarts g p z s)

@@ -1,6 +1,6 @@
 -- The list rule keeps the unit rule: a step that holds no more of a class than its units does so still when the rule is done.
 -- Assumes nothing.
-use mathlib.Core.Path.{_≡_, refl, ap, subst}
+use mathlib.Core.Path.{_≡_, refl, sym, _∙_, ap, subst}
 use mathlib.Core.Bool.{Bool, true, false, _&&_}
 use mathlib.Core.Logic.{_≢_, ⊎-elim}
 use mathlib.Core.List.{List, [], _∷_}
@@ -17,8 +17,10 @@ use Rattle.lists.specs.Fold.{fold}
 use Rattle.lists.specs.Count.{count-same}
 use Rattle.lists.specs.Counted.{count-one, span-none, none-span}
 use Rattle.lists.specs.Place.{set-view, zeros-at}
-use Rattle.legal.specs.Loop.{Loop, Pair, runsOn, hold}
-use Rattle.legal.specs.Legal.{occupies, busy}
+use Rattle.legal.specs.Loop.{plain, Loop, Pair, runsOn, hold}
+use Rattle.legal.specs.Legal.{busy}
+use Rattle.legal.specs.Shape.{Sound, Bodied}
+use Rattle.legal.specs.Busy.{spans, busy-plain}
 use Rattle.list_rule.specs.Rule.{startAt, uses, inUse, free, place, fillStep, fillFrom, listRule}
 use Rattle.list_rule.specs.Kept.{place-ind, fill-ind}
 
@@ -137,8 +139,9 @@ module _ (g : Loop) where
   zeros-units r n c q = rule-units r c q (replicate n 0) (omega (arith, zeros-in-use n c q))
 
   -- where every node is placed, the units in use are those that the pair's nodes occupy
-  pub in-use-busy : (s : List ℕ) (p : Pair) → ((v : ℕ) → v < g .graph .nodes → 0 < startAt s v) → ((v : ℕ) → v < g .graph .nodes → p .start v ≡ startAt s v)
+  pub in-use-busy : (s : List ℕ) (p : Pair) → Sound g → p .kind ≡ plain → Bodied g p → ((v : ℕ) → v < g .graph .nodes → 0 < startAt s v) → ((v : ℕ) → v < g .graph .nodes → p .start v ≡ startAt s v)
       → (c q : ℕ) → busy g p c q ≡ inUse g s c q
-  unfolding busy inUse occupies uses
-  in-use-busy s p placed same c q =
-      count-same (occupies g p c q) (uses g s c q) (g .graph .nodes) (λ v l. rw (same v l, lt-ltb 0 (startAt s v) (placed v l)))
+  unfolding inUse spans uses
+  in-use-busy s p sound k b placed same c q =
+      sym (busy-plain g p sound k b c q)
+      ∙ count-same (spans g p c q) (uses g s c q) (g .graph .nodes) (λ v l. rw (same v l, lt-ltb 0 (startAt s v) (placed v l)))

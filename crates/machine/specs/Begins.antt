@@ -13,7 +13,7 @@ use Rattle.lists.specs.Quotient.{rows-below}
 use Rattle.answer.specs.Refused.{fine}
 use Rattle.answer.specs.declared.Refusal.the-variants.{None}
 use Rattle.legal.specs.Loop.{Loop, Pair}
-use Rattle.legal.specs.Shape.{Sound, Placed}
+use Rattle.legal.specs.Shape.{Sound, Starting}
 use Rattle.machine.specs.Values.{placeOf}
 use Rattle.machine.specs.Run.{Machine, visit, cleared}
 use Rattle.machine.specs.Moments.{issueStep, moment, step-within}
@@ -44,7 +44,7 @@ cleared-rest (suc n) xs x h = getD-set-other (cleared n xs) n x 0 0 (omega arith
 unfoldable pub blank : Loop → ℕ → List ℕ → List ℕ → Machine
 blank g k values finish = record { values = cleared (k * g .graph .nodes) values; finish = cleared (k * g .graph .nodes) finish; refusal = None }
 
-module _ (g : Loop) (p : Pair) (s : Sound g) (b : Placed g p) (starts : List ℕ) (k : ℕ) (values finish : List ℕ)
+module _ (g : Loop) (p : Pair) (s : Sound g) (b : Starting g p) (starts : List ℕ) (k : ℕ) (values finish : List ℕ)
     (room : k * g .graph .nodes ≤ length values) (room′ : k * g .graph .nodes ≤ length finish) where
   -- no moment comes before the first step
   moment-late : (i v : ℕ) → i < k → v < g .graph .nodes → g .graph .nodes ≤ moment g p i v

@@ -11,7 +11,7 @@ use Rattle.answer.specs.Refused.{fine}
 use Rattle.answer.specs.declared.Refusal.{Refusal}
 use Rattle.answer.specs.declared.Refusal.the-variants.{None, Early, Busy}
 use Rattle.legal.specs.Loop.{Loop, Pair, runsOn}
-use Rattle.legal.specs.Shape.{Sound, Placed}
+use Rattle.legal.specs.Shape.{Sound, Starting}
 use Rattle.machine.specs.Run.{Machine, issues, lateEdge, held, visit, runSteps, runOf}
 use Rattle.machine.specs.Visits.{halted, written, Visited, idle, early, busy, goes, visited, stays, through-steps}
 use Rattle.machine.specs.Sofar.{Sofar}
@@ -71,7 +71,7 @@ module _ (g : Loop) (p : Pair) (starts : List ℕ) (k : ℕ) where
   ended-visit m₀ m r t v one l (busy q timely full) none f next =
       inr (record { step = t; node = v; step-some = one; node-in = l; issuing = q; sofar = sofar-halted m₀ m _ _ f; why = inr (refl, timely, full) })
 
-module _ (g : Loop) (p : Pair) (s : Sound g) (b : Placed g p) (starts : List ℕ) (k : ℕ) (values finish : List ℕ)
+module _ (g : Loop) (p : Pair) (s : Sound g) (b : Starting g p) (starts : List ℕ) (k : ℕ) (values finish : List ℕ)
     (room : k * g .graph .nodes ≤ length values) (room′ : k * g .graph .nodes ≤ length finish) where
   ended-keeps : (t v : ℕ) (m : Machine) → 1 ≤ t → v < g .graph .nodes
       → Ends g p starts k (blank g k values finish) (t * g .graph .nodes + v) m

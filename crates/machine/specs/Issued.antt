@@ -13,7 +13,7 @@ use Rattle.lists.specs.Pick.{both-ways}
 use Rattle.lists.specs.Quotient.{rows-apart, rows-below}
 use Rattle.answer.specs.Refused.{fine}
 use Rattle.legal.specs.Loop.{Loop, Pair, runsOn, latency}
-use Rattle.legal.specs.Shape.{Sound, Placed}
+use Rattle.legal.specs.Shape.{Sound, Starting}
 use Rattle.machine.specs.Values.{placeOf, computed}
 use Rattle.machine.specs.Run.{Machine, issues, iteration}
 use Rattle.machine.specs.Reads.{computed-same}
@@ -21,7 +21,7 @@ use Rattle.machine.specs.Moments.{issueStep, moment, IssuedAt, issues-st
 use Rattle.machine.specs.Visits.{Clear, written, Visited, idle, early, busy, goes}
 use Rattle.machine.specs.Sofar.{Ready, Issued, Sofar, step-before, held-is, timely-ready}
 
-module _ (g : Loop) (p : Pair) (s : Sound g) (b : Placed g p) (starts : List ℕ) (k : ℕ) (m₀ : Machine) where
+module _ (g : Loop) (p : Pair) (s : Sound g) (b : Starting g p) (starts : List ℕ) (k : ℕ) (m₀ : Machine) where
   -- ---- a visit that issues nothing
 
   -- no moment is the visit's

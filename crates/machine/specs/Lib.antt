@@ -13,6 +13,8 @@ pub mod Begins
 pub mod Ended
 pub mod NotStuck
 pub mod Timing
+pub mod Free
+pub mod Meets
 pub mod Accepted
 pub mod Refused
 pub mod Judges

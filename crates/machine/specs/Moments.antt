@@ -13,7 +13,7 @@ use Rattle.lists.specs.Mapped.{mapped-at}
 use Rattle.lists.specs.Fold.{top-over}
 use Rattle.lists.specs.Quotient.{divided, rows-below, rows-apart}
 use Rattle.legal.specs.Loop.{Loop, Pair}
-use Rattle.legal.specs.Shape.{Sound, Placed}
+use Rattle.legal.specs.Shape.{Sound, Starting}
 use Rattle.machine.specs.Run.{depth, issues, iteration, runSteps}
 
 -- no retiming is above the depth
@@ -36,12 +36,7 @@ issueStep g p i v = repOf g p i v * p .length + p .start v
 unfoldable pub moment : Loop → Pair → ℕ → ℕ → ℕ
 moment g p i v = issueStep g p i v * g .graph .nodes + v
 
-module _ (g : Loop) (p : Pair) (b : Placed g p) where
-  -- node v starts in one of the steps of the body
-  pub in-body : (s : Sound g) (v : ℕ) → v < g .graph .nodes → (1 ≤ p .start v) × (p .start v ≤ p .length)
-  in-body s v l = (b .body v l .begins, omega (arith, b .body v l .ends, s .works v l))
-
-module _ (g : Loop) (p : Pair) (s : Sound g) (b : Placed g p) (starts : List ℕ) (k : ℕ) where
+module _ (g : Loop) (p : Pair) (s : Sound g) (b : Starting g p) (starts : List ℕ) (k : ℕ) where
   pub record IssuedAt (t v i : ℕ) : Type 0 where
     pub is-one : i < k
     pub step : issueStep g p i v ≡ t
@@ -63,7 +58,7 @@ module _ (g : Loop) (p : Pair) (s : Sound g) (b : Placed g p) (starts : List ℕ
       → (issues g p starts k (issueStep g p i v) v ≡ true) × (iteration g p starts k (issueStep g p i v) v ≡ i)
   unfolding issues issueStep repOf
   step-issues i v h l =
-      let x = in-body g p b s v l in
+      let x = b v l in
       let u = under-depth g p v l in
       let t : ℕ = (i + depth g p - p .retiming v) * p .length + p .start v in
       let d = divided (i + depth g p - p .retiming v) (p .length) (p .start v - 1) (t - 1) (omega arith) (omega arith) in (
@@ -76,7 +71,7 @@ module _ (g : Loop) (p : Pair) (s : Sound g) (b : Placed g p) (starts : List ℕ
   pub step-within : (i v : ℕ) → i < k → v < g .graph .nodes → (1 ≤ issueStep g p i v) × (issueStep g p i v ≤ runSteps g p starts k)
   unfolding issueStep repOf runSteps
   step-within i v h l =
-      let x = in-body g p b s v l in
+      let x = b v l in
       let u = under-depth g p v l in
       (omega arith, omega (arith, rows-below (i + depth g p - p .retiming v) (k + depth g p) (p .length) (omega arith)))
 
@@ -95,7 +90,7 @@ module _ (g : Loop) (p : Pair) (s : Sound g) (b : Placed g p) (starts : List ℕ
   step-apart : (i j v : ℕ) → v < g .graph .nodes → issueStep g p i v ≡ issueStep g p j v → i ≡ j
   unfolding issueStep
   step-apart i j v l e =
-      let x = in-body g p b s v l in
+      let x = b v l in
       rep-apart i j v l (rows-apart (repOf g p i v) (repOf g p j v) (p .length) (p .start v - 1) (p .start v - 1) (omega arith) (omega arith) (omega arith) .0)
 
   -- no two share a moment

@@ -6,14 +6,14 @@ use Prim.Native.Nat.{ℕ, _*_, _≤_, _<_}
 use lib.ListN.{length}
 use Rattle.answer.specs.declared.Refusal.the-variants.{None}
 use Rattle.legal.specs.Loop.{Loop, Pair}
-use Rattle.legal.specs.Shape.{Sound, Placed}
+use Rattle.legal.specs.Shape.{Sound, Starting}
 use Rattle.machine.specs.Plain.{PlainLoop}
 use Rattle.machine.specs.Run.{runOf}
 use Rattle.machine.specs.Moments.{moment-within}
 use Rattle.machine.specs.Sofar.{Issued}
 use Rattle.machine.specs.Ended.{ended-none}
 
-module _ (g : Loop) (p : Pair) (s : Sound g) (b : Placed g p) (starts : List ℕ) (k : ℕ) (values finish : List ℕ)
+module _ (g : Loop) (p : Pair) (s : Sound g) (b : Starting g p) (starts : List ℕ) (k : ℕ) (values finish : List ℕ)
     (room : k * g .graph .nodes ≤ length values) (room′ : k * g .graph .nodes ≤ length finish)
     (goes-on : runOf g p starts k values finish .refusal ≡ None) where
   -- every node of every iteration was issued: its finish step is its issue step and its latency, its operands were finished, and it had a unit

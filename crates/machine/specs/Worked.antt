@@ -10,13 +10,13 @@ use Rattle.lists.specs.Fold.{count, fold, top}
 use Rattle.lists.specs.First.{firstFrom}
 use Rattle.answer.specs.Refused.{fine}
 use Rattle.answer.specs.declared.Refusal.the-variants.{None}
-use Rattle.legal.specs.Loop.{Pair, hold}
+use Rattle.legal.specs.Loop.{plain, Pair, hold}
 use Rattle.list_rule.specs.Worked.{small}
 use Rattle.machine.specs.Values.{plus, minus, times, difference, applied, edgesInto, operandBy, computedBy}
 use Rattle.machine.specs.Run.{depth, issues, late, lateEdge, holds, held, issue, visit, stepOf, runSteps, ran, cleared, runOf}
 
 unfoldable pub smallPair : Pair
-smallPair = record { start = λ v. getD (1 ∷ 1 ∷ 2 ∷ []) v 0; length = 2; retiming = λ v. getD (1 ∷ 0 ∷ 0 ∷ []) v 0 }
+smallPair = record { kind = plain; start = λ v. getD (1 ∷ 1 ∷ 2 ∷ []) v 0; length = 2; retiming = λ v. getD (1 ∷ 0 ∷ 0 ∷ []) v 0 }
 
 unfoldable pub smallStarts : List ℕ
 smallStarts = set (set (replicate 45 0) 30 5) 31 7

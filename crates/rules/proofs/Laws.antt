@@ -1,26 +1,30 @@
 -- Tests and a product's bound; the edge rule as the code asks it, edge after edge; counts over the nodes.
 -- Assumes nothing.
-use mathlib.Core.Path.{_≡_, refl, sym, _∙_}
+use mathlib.Core.Path.{_≡_, refl, sym, ap, _∙_}
 use mathlib.Core.Bool.{Bool, true, false}
 use mathlib.Core.List.{List}
-use Prim.Native.Nat.{ℕ, _+_, _-_, _*_, _≤_, _<_}
-use native.Mathlib.Nat.{mul-le-mul, sub-zero, zero-add}
+use Prim.Native.Nat.{ℕ, zero, suc, _+_, _-_, _*_, _/_, _%_, _≤_, _<_}
+use native.Mathlib.Nat.{mul-le-mul, sub-zero, zero-add, add-mul, mod-lt, div-eq-of-lt, div-add-mod'}
 use native.Mathlib.Numerals.{add-one}
 use native.Mathlib.Omega.{arith}
 use lib.ListN.{length, getD}
 use borrow.Author.Needs.{needs}
 use borrow.Author.Tests.{le-ltb, lt-ltb, le-leb, lt-leb, eq-eqb, ne-eqb}
+use lib.Dec.{eqb}
 use Rattle.lists.specs.Pick.{pick}
 use Rattle.lists.specs.Span.{span}
 use Rattle.lists.specs.First.{firstFrom, first-here, first-next}
-use Rattle.lists.specs.Fold.{count, count-snoc}
+use Rattle.lists.specs.Fold.{sumOf, sum-snoc}
+use Rattle.lists.specs.Quotient.{divided}
+use Rattle.lists.specs.Sums.{bit}
 use Rattle.legal.specs.Loop.{Loop, Pair, latency}
 use Rattle.legal.specs.Legal.{EdgeRule}
+use Rattle.legal.specs.Held.{lands, held, held-none, held-more, held-closed}
 use Rattle.legal.specs.Judging.{breaks}
 use Rattle.tables.specs.declared.Timetable.{Timetable}
 use Rattle.tables.specs.Edges.{Ends, Told}
 use Rattle.tables.specs.Times.{Timed}
-use Rattle.rules.specs.Busy.{occupiesAt, busyIn}
+use Rattle.rules.specs.Busy.{heldOn, busyIn}
 
 -- a definition's tests, settled from what a branch showed
 pub ruleset tests = (needs, le-ltb, lt-ltb, le-leb, lt-leb, eq-eqb, ne-eqb)
@@ -94,11 +98,49 @@ module _ (g : Loop) (p : Pair) (e head tail works : ℕ) (s : Sides g p e head t
 
 -- ---- the nodes that hold a unit
 
-module _ (ks ss : List ℕ) (c h q : ℕ) where
-  pub busy-none : busyIn ks ss c h q 0 ≡ 0
-  unfolding busyIn count span
+module _ (l : ℕ) (ks ss : List ℕ) (c h q : ℕ) where
+  pub busy-none : busyIn l ks ss c h q 0 ≡ 0
+  unfolding busyIn sumOf span
   busy-none = refl
 
-  pub busy-more : (v : ℕ) (b : Bool) → b ≡ occupiesAt (getD ks v 0) (getD ss v 0) c h q → busyIn ks ss c h q (v + 1) ≡ busyIn ks ss c h q v + pick b 1 0
+  pub busy-more : (v a : ℕ) → a ≡ heldOn l (getD ks v 0) (getD ss v 0) c h q → busyIn l ks ss c h q (v + 1) ≡ busyIn l ks ss c h q v + a
   unfolding busyIn
-  busy-more v b e = rw (add-one, e, count-snoc, zero-add)
+  busy-more v a e = rw (add-one, e, sum-snoc, zero-add)
+
+-- ---- how often an operation holds a step, as the code computes it
+
+-- the steps from one step of the body to another, over the end
+pub gap-forward : (l s q : ℕ) → 1 ≤ s → s ≤ q → q ≤ l → q - s ≡ (q + l - s) % l
+gap-forward l s q one le to = sym (divided 1 l (q - s) (q + l - s) (omega arith) (omega arith) .1)
+
+pub gap-over : (l s q : ℕ) → q < s → 1 ≤ q → s ≤ l → l - (s - q) ≡ (q + l - s) % l
+gap-over l s q lt one to = sym (divided 0 l (l - (s - q)) (q + l - s) (omega arith) (omega arith) .1)
+
+module _ (l s h q gap : ℕ) (from : 1 ≤ s) (to : s ≤ l) (one : 1 ≤ q) (within : q ≤ l) (is : gap ≡ (q + l - s) % l) where
+  closed : held l s h q ≡ (h + l - 1 - gap) / l
+  closed = held-closed l s q from to one within h ∙ ap (λ (x : ℕ). (h + l - 1 - x) / l) (sym is)
+
+  small : gap < l
+  small = omega (arith, mod-lt (q + l - s) {m = l} (omega arith))
+
+  pub held-zero : h ≤ gap → 0 ≡ held l s h q
+  held-zero le = sym (closed ∙ div-eq-of-lt {n = h + l - 1 - gap} {m = l} (omega (arith, small)))
+
+  more : (x r : ℕ) → x * l + r + 1 + gap ≡ h → r < l → held l s h q ≡ 1 + x
+  more x r e below = closed ∙ divided (1 + x) l r (h + l - 1 - gap) below (omega (arith, small, add-mul 1 x l)) .0
+
+  pub held-once : gap < h → h ≤ l → 1 ≡ held l s h q
+  held-once lt le = sym (more 0 (h - 1 - gap) (omega arith) (omega arith))
+
+  pub held-round : gap < h → 1 + (h - 1 - gap) / l ≡ held l s h q
+  held-round lt = sym (more ((h - 1 - gap) / l) ((h - 1 - gap) % l) (omega (arith, div-add-mod' (h - 1 - gap) l)) (mod-lt (h - 1 - gap) {m = l} (omega arith)))
+
+-- and no more often than it has steps
+bit-one : (b : Bool) → bit b ≤ 1
+unfolding pick
+bit-one true = omega arith
+bit-one false = omega arith
+
+pub held-few : (l s h q : ℕ) → held l s h q ≤ h
+held-few l s zero q = omega (arith, held-none l s q)
+held-few l s (suc h) q = omega (arith, held-more l s h q, held-few l s h q, bit-one (eqb (lands l s h) q))

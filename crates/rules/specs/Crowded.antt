@@ -1,57 +1,85 @@
--- Steps that hold more of a class than its units: such a class has a node that starts in the lowest of them, and the lowest is what the unit rule refuses.
+-- Steps that hold more of a class than its units: the lowest of them is step 1, into which an operation may run over the end, or one in which a node of the class starts; and the lowest is what the unit rule refuses.
 -- Assumes nothing.
-use mathlib.Core.Path.{_≡_, sym, _∙_}
+use mathlib.Core.Path.{_≡_, refl, sym, _∙_, ap}
 use mathlib.Core.Bool.{Bool, true, false, _&&_, true≢false}
-use mathlib.Core.Logic.{_⊎_, ⊎-elim}
-use Prim.Native.Nat.{ℕ, zero, suc, _+_, _≤_, _<_}
+use mathlib.Core.Logic.{_≢_, _⊎_, inl, inr, ⊎-elim}
+use Prim.Native.Nat.{ℕ, zero, suc, _+_, _-_, _*_, _/_, _%_, _≤_, _<_}
 use native.Mathlib.Omega.{arith}
-use native.Mathlib.Decide.{decLe}
+use native.Mathlib.Decide.{ℕ-discrete, decLe}
+use native.Mathlib.Nat.{mod-lt, mod-eq-of-lt, div-add-mod', suc-mul}
 use lib.Dec.{eqb, leb, ltb}
-use borrow.Author.Tests.{ltb-true, ltb-false, leb-true, eqb-true, lt-ltb, le-leb, lt-leb, eq-eqb}
-use Rattle.lists.specs.Pick.{pick-true, pick-false}
+use borrow.Author.Tests.{eqb-true, eqb-false, eq-eqb, ne-eqb, ltb-true, ltb-false, lt-ltb, le-leb, lt-leb}
+use Rattle.lists.specs.Both.{and-both, both-and}
+use Rattle.lists.specs.Count.{some-or-none}
 use Rattle.lists.specs.First.{first-is}
-use Rattle.lists.specs.Both.{and-both}
-use Rattle.lists.specs.Count.{count-le, count-some, some-or-none}
+use Rattle.lists.specs.Pick.{pick, pick-true, pick-false}
+use Rattle.lists.specs.Quotient.{divided}
+use Rattle.lists.specs.Sums.{bit, sum-le}
 use Rattle.answer.specs.declared.Refusal.the-variants.{None, Units}
 use Rattle.legal.specs.Loop.{Loop, Pair, runsOn, hold}
-use Rattle.legal.specs.Legal.{occupies, busy}
+use Rattle.legal.specs.Held.{lands, held, held-none, held-more}
+use Rattle.legal.specs.Legal.{busy}
+use Rattle.legal.specs.Shape.{Starting}
 use Rattle.legal.specs.Judging.{over, overClass, overStep, unitsOf}
 
-module _ (g : Loop) (p : Pair) where
-  -- node v runs on class c and holds its unit in step q
-  record Holds (c q v : ℕ) : Type 0 where
-    class : runsOn g v ≡ c
-    from : p .start v ≤ q
-    to : q < p .start v + hold (g .class c)
+module _ (L s : ℕ) (from : 1 ≤ s) (to : s ≤ L) where
+  -- the next step of an operation falls on the next step of the body, or on step 1 after the last
+  lands-next : (j : ℕ) → ((lands L s j < L) × (lands L s (suc j) ≡ lands L s j + 1)) ⊎ ((lands L s j ≡ L) × (lands L s (suc j) ≡ 1))
+  lands-next j =
+      let x : ℕ = s - 1 + j in
+      let y : ℕ = s - 1 + suc j in
+      let a : ℕ = x / L in
+      let w : a * L + x % L ≡ x = div-add-mod' x L in
+      let m : x % L < L = mod-lt x {m = L} (omega arith) in
+      elim (ℕ-discrete (x % L + 1) L) [
+        | yes e ↦ inr (omega arith, omega (arith, divided (suc a) L 0 y (omega arith) (omega (arith, suc-mul a L)) .1))
+        | no e ↦ inl (omega arith, omega (arith, divided a L (x % L + 1) y (omega arith) (omega arith) .1))
+      ]
 
-  occupies-holds : (c q v : ℕ) → occupies g p c q v ≡ true → Holds c q v
-  unfolding occupies
-  occupies-holds c q v e =
-      let a = and-both _ _ e in
-      let b = and-both _ _ (a .1) in
-      record { class = eqb-true _ _ (a .0); from = leb-true _ _ (b .0); to = ltb-true _ _ (b .1) }
-
-  holds-occupies : (c q v : ℕ) → Holds c q v → occupies g p c q v ≡ true
-  unfolding occupies
-  holds-occupies c q v h = rw (eq-eqb _ _ (h .class), le-leb _ _ (h .from), lt-ltb _ _ (h .to))
-
-  -- node v runs on class c and starts in step q
-  startsIn : ℕ → ℕ → ℕ → Bool
-  startsIn c q v = eqb (runsOn g v) c && eqb (p .start v) q
-
-  -- where no node of a class starts, the step before holds no less of it
-  before-holds : (c q : ℕ) → ((v : ℕ) → v < g .graph .nodes → startsIn c (suc q) v ≡ false) → busy g p c (suc q) ≤ busy g p c q
-  unfolding busy startsIn
-  before-holds c q none = count-le (occupies g p c (suc q)) (occupies g p c q) (g .graph .nodes) (λ v l e. earlier v (none v l) (occupies-holds c (suc q) v e))
+  same-bit : (a b c d : ℕ) → (a ≡ b → c ≡ d) → (c ≡ d → a ≡ b) → bit (eqb a b) ≡ bit (eqb c d)
+  unfolding pick
+  same-bit a b c d f g = go (eqb a b) refl (eqb c d) refl
     where
-      not-now : (v : ℕ) → startsIn c (suc q) v ≡ false → runsOn g v ≡ c → p .start v ≡ suc q → ⊥
-      not-now v n k s = true≢false (sym (rw (eq-eqb _ _ k, eq-eqb _ _ s)) ∙ n)
+      go : (t : Bool) → eqb a b ≡ t → (u : Bool) → eqb c d ≡ u → bit t ≡ bit u
+      go true e true f′ = refl
+      go false e false f′ = refl
+      go true e false f′ = absurd (eqb-false c d f′ (f (eqb-true a b e)))
+      go false e true f′ = absurd (eqb-false a b e (g (eqb-true c d f′)))
 
-      earlier : (v : ℕ) → startsIn c (suc q) v ≡ false → Holds c (suc q) v → occupies g p c q v ≡ true
-      earlier v n h =
-          let ne = not-now v n (h .class) in
-          holds-occupies c q v (record { class = h .class; from = omega arith; to = omega arith })
+  -- a later step of the body has what the one before it has, and what starts in it
+  next-is : (q : ℕ) → 1 ≤ q → q < L → (h : ℕ) → held L s (suc h) (q + 1) ≡ bit (eqb s (q + 1)) + held L s h q
+  next-is q one l zero =
+      let first : lands L s 0 ≡ s = omega (arith, mod-eq-of-lt {n = s - 1 + 0} {m = L} (omega arith)) in
+      omega (arith, held-more L s 0 (q + 1), held-none L s (q + 1), held-none L s q, ap (λ (x : ℕ). bit (eqb x (q + 1))) first)
+  next-is q one l (suc h) =
+      let on : bit (eqb (lands L s (suc h)) (q + 1)) ≡ bit (eqb (lands L s h) q) =
+      ⊎-elim
+      (λ t. same-bit (lands L s (suc h)) (q + 1) (lands L s h) q (λ e. omega arith) (λ e. omega arith))
+      (λ t. same-bit (lands L s (suc h)) (q + 1) (lands L s h) q (λ e. omega arith) (λ e. omega arith))
+      (lands-next h) in
+      omega (arith, held-more L s (suc h) (q + 1), held-more L s h q, next-is q one l h)
 
+  pub held-next : (q : ℕ) → 1 ≤ q → q < L → s ≢ q + 1 → (h : ℕ) → held L s h (q + 1) ≤ held L s h q
+  unfolding pick
+  held-next q one l ne h =
+      omega (arith, held-more L s h (q + 1), next-is q one l h, ap {B = ℕ} (λ b. bit b) (ne-eqb s (q + 1) ne))
+
+module _ (g : Loop) (p : Pair) (b : Starting g p) where
+  -- where no node of the class starts in a later step, the step before it is as busy
+  pub busy-next : (c q : ℕ) → 1 ≤ q → q < p .length → ((v : ℕ) → v < g .graph .nodes → runsOn g v ≡ c → p .start v ≢ q + 1) → busy g p c (q + 1) ≤ busy g p c q
+  unfolding busy pick
+  busy-next c q one l none =
+      sum-le (λ v. pick (eqb (runsOn g v) c) (held (p .length) (p .start v) (hold (g .class c)) (q + 1)) 0) (λ v. pick (eqb (runsOn g v) c) (held (p .length) (p .start v) (hold (g .class c)) q) 0)
+      0 (g .graph .nodes) (λ v a m. go v (omega arith) (eqb (runsOn g v) c) refl)
+    where
+      go : (v : ℕ) → v < g .graph .nodes → (t : Bool) → eqb (runsOn g v) c ≡ t
+          → pick t (held (p .length) (p .start v) (hold (g .class c)) (q + 1)) 0 ≤ pick t (held (p .length) (p .start v) (hold (g .class c)) q) 0
+      go v m true e =
+          let x = b v m in
+          held-next (p .length) (p .start v) (x .0) (x .1) q one l (none v m (eqb-true (runsOn g v) c e)) (hold (g .class c))
+      go v m false e = omega arith
+
+  -- a step that holds too much comes no earlier than step 1, if that does, or than the start of a node of the class, in a step that does
   pub record Start (c q : ℕ) : Type 0 where
     pub node : ℕ
     pub node-in : node < g .graph .nodes
@@ -59,29 +87,36 @@ module _ (g : Loop) (p : Pair) where
     pub by : p .start node ≤ q
     pub is-over : over g p (p .start node) c ≡ true
 
-  start-at : (c q v : ℕ) → v < g .graph .nodes → runsOn g v ≡ c → p .start v ≡ q → over g p q c ≡ true → Start c q
-  start-at c q v l k s e = record { node = v; node-in = l; class = k; by = omega arith; is-over = rw s e }
+  startsIn : ℕ → ℕ → ℕ → Bool
+  startsIn c q v = eqb (runsOn g v) c && eqb (p .start v) q
 
-  -- a node of the class starts in that step or before it, in a step that holds too much as well
-  pub over-start : (c q : ℕ) → over g p q c ≡ true → Start c q
-  unfolding over busy startsIn
-  over-start c zero e =
-      let many : g .class c .units < busy g p c 0 = ltb-true _ _ e in
-      let n = count-some (occupies g p c 0) (g .graph .nodes) (omega arith) in
-      let h = occupies-holds c 0 (n .0) (n .2) in
-      start-at c 0 (n .0) (n .1) (h .class) (omega arith) e
-  over-start c (suc q) e =
-      let many : g .class c .units < busy g p c (suc q) = ltb-true _ _ e in
+  full-start : (c q : ℕ) → 1 ≤ q → q ≤ p .length → g .class c .units < busy g p c q → (g .class c .units < busy g p c 1) ⊎ Start c q
+  unfolding startsIn over
+  full-start c zero one l h = absurd (omega arith)
+  full-start c (suc zero) one l h = inl h
+  full-start c (suc (suc q)) one l h =
       ⊎-elim
-      (λ n. let b = and-both _ _ (n .2) in start-at c (suc q) (n .0) (n .1) (eqb-true _ _ (b .0)) (eqb-true _ _ (b .1)) e)
       (λ n.
-      let more : g .class c .units < busy g p c q = omega (arith, before-holds c q n) in
-      let s = over-start c q (lt-ltb _ _ more) in
-      record { node = s .node; node-in = s .node-in; class = s .class; by = omega arith; is-over = s .is-over })
-      (some-or-none (startsIn c (suc q)) (g .graph .nodes))
+      let b = and-both _ _ (n .2) in
+      let at : p .start (n .0) ≡ suc (suc q) = eqb-true _ _ (b .1) in
+      inr (record { node = n .0; node-in = n .1; class = eqb-true _ _ (b .0); by = omega arith; is-over = rw at (lt-ltb _ _ h) }))
+      (λ n.
+      let next : busy g p c (suc q + 1) ≤ busy g p c (suc q) =
+      busy-next c (suc q) (omega arith) (omega arith) (λ v m k s. true≢false (sym (both-and _ _ (eq-eqb _ _ k) (eq-eqb (p .start v) (suc (suc q)) (omega arith))) ∙ n v m)) in
+      let same : busy g p c (suc q + 1) ≡ busy g p c (suc (suc q)) = ap (busy g p c) (omega arith) in
+      ⊎-elim
+      (λ f. inl f)
+      (λ s. inr (record { node = s .node; node-in = s .node-in; class = s .class; by = omega (arith, s .by); is-over = s .is-over }))
+      (full-start c (suc q) (omega arith) (omega arith) (omega arith)))
+      (some-or-none (startsIn c (suc (suc q))) (g .graph .nodes))
 
-  -- ---- the lowest step, and in it the lowest class
+  pub over-start : (c q : ℕ) → 1 ≤ q → q ≤ p .length → over g p q c ≡ true → (over g p 1 c ≡ true) ⊎ Start c q
+  unfolding over
+  over-start c q one l e = ⊎-elim (λ f. inl (lt-ltb _ _ f)) inr (full-start c q one l (ltb-true _ _ e))
 
+-- ---- the lowest step, and in it the lowest class
+
+module _ (g : Loop) (p : Pair) where
   -- step q of the body holds more of class c than its units
   pub record Over (q c : ℕ) : Type 0 where
     pub begins : 1 ≤ q

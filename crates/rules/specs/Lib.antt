@@ -1,2 +1,3 @@
 pub mod Busy
 pub mod Crowded
+pub mod Lowest

@@ -1,11 +1,13 @@
 // The two rules of a schedule: every edge's head waits for its tail, and no step holds more of a class than its units.
 ghost use mathlib.Core.Path.{_≡_};
-ghost use Prim.Native.Nat.{_+_, _*_, _≤_, _<_};
+ghost use Prim.Native.Nat.{_+_, _-_, _*_, _%_, _≤_, _<_};
 ghost use Rattle.legal.specs.Loop.{Loop, Pair, hold};
 ghost use Rattle.legal.specs.Judging.{brokenEdge, unitsOf};
 ghost use Rattle.tables.specs.Edges.{Ends, Told};
 ghost use Rattle.tables.specs.Times.{Sound, Timed};
-ghost use Rattle.rules.specs.Busy.{occupiesAt, busyIn, Seated};
+ghost use Rattle.legal.specs.Held.{held};
+ghost use Rattle.rules.specs.Busy.{heldOn, busyIn, StartsIn, Seated};
+ghost use Rattle.rules.specs.Lowest.{lowerSpot, FirstOf, Lowest};
 use answer::Refusal;
 use form::Class;
 use tables::Timetable;
@@ -64,37 +66,61 @@ pub fn hold_of(class: Class) -> u8
     1
 }
 
-// Whether an operation on class `kind` that starts at `start` holds a unit of `class` in `step`.
-fn occupies(kind: u8, start: u16, class: u8, hold: u8, step: u16) -> bool
-    ensures { λ b. ⌜ b ≡ occupiesAt kind start class hold step ⌝ }
+// How many steps after `start` comes `step`, over the end of the body where it lies before.
+fn gap_of(length: u16, start: u16, step: u16) -> u16
+    requires { ⌜ (1 ≤ start) × (start ≤ length) × (1 ≤ step) × (step ≤ length) ⌝ }
+    ensures { λ r. ⌜ r ≡ (step + length - start) % length ⌝ }
 {
-    if kind != class {
-        return false;
+    if start <= step {
+        return step - start;
     }
-    if step < start {
-        return false;
-    }
-    (step as u32) < start as u32 + hold as u32
+    length - (start - step)
 }
 
-// How many nodes hold a unit of `class` in `step`.
+// How often an operation that starts at `start` and holds its unit for `hold` steps holds it in `step`, its steps taken modulo the length.
+fn held_in(length: u16, start: u16, hold: u8, step: u16) -> u16
+    requires { ⌜ (1 ≤ start) × (start ≤ length) × (1 ≤ step) × (step ≤ length) ⌝ }
+    ensures { λ r. ⌜ (r ≡ held length start hold step) × (r ≤ 255) ⌝ }
+{
+    let steps = hold as u16;
+    let gap = gap_of(length, start, step);
+    if steps <= gap {
+        return 0;
+    }
+    if steps <= length {
+        return 1;
+    }
+    1 + (steps - 1 - gap) / length
+}
+
+// The same of an operation on class `kind`, which holds no unit of another class.
+fn held_on(length: u16, kind: u8, start: u16, class: u8, hold: u8, step: u16) -> u16
+    requires { ⌜ (1 ≤ start) × (start ≤ length) × (1 ≤ step) × (step ≤ length) ⌝ }
+    ensures { λ r. ⌜ (r ≡ heldOn length kind start class hold step) × (r ≤ 255) ⌝ }
+{
+    if kind != class {
+        return 0;
+    }
+    held_in(length, start, hold, step)
+}
+
+// How often the nodes hold a unit of `class` in `step`.
 pub fn busy_in<'a>(
+    length: u16,
     nodes: u8,
     kind: &'a [u8; 64],
     start: &'a [u16; 64],
     class: u8,
     hold: u8,
     step: u16,
-) -> u8
-    requires { ⌜ nodes ≤ 64 ⌝ }
-    ensures { λ r. ⌜ r ≡ busyIn (now (kind .entry)) (now (start .entry)) class hold step nodes ⌝ }
+) -> u16
+    requires { ⌜ (nodes ≤ 64) × (1 ≤ step) × (step ≤ length) × StartsIn length (now start) nodes ⌝ }
+    ensures { λ r. ⌜ r ≡ busyIn length (now (kind .entry)) (now (start .entry)) class hold step nodes ⌝ }
 {
-    let mut busy: u8 = 0;
+    let mut busy: u16 = 0;
     for v in 0..nodes {
         let i = v as usize;
-        if occupies(kind[i], start[i], class, hold, step) {
-            busy += 1;
-        }
+        busy += held_on(length, kind[i], start[i], class, hold, step);
     }
     busy
 }
@@ -106,33 +132,78 @@ fn spot(step: u16, class: u8) -> u32
     step as u32 * 4 + class as u32
 }
 
-// Units with the lowest overfull step and its lowest class. A node of that class starts in it, or the step before would hold as much.
+// The spot of a step and a class where the step holds more of it than its units and no spot so far is lower; else the lowest so far.
+fn lower_spot<'a>(
+    length: u16,
+    nodes: u8,
+    kind: &'a [u8; 64],
+    start: &'a [u16; 64],
+    class: Class,
+    number: u8,
+    step: u16,
+    lowest: u32,
+) -> u32
+    requires { ⌜ (nodes ≤ 64) × (1 ≤ step) × (step ≤ length) × StartsIn length (now start) nodes ⌝ }
+    ensures { λ r. ⌜ r ≡ lowerSpot length (now (kind .entry)) (now (start .entry)) nodes class number step lowest ⌝ }
+{
+    let here = spot(step, number);
+    if lowest <= here {
+        return lowest;
+    }
+    let busy = busy_in(length, nodes, kind, start, number, hold_of(class), step);
+    if busy <= class.units as u16 {
+        return lowest;
+    }
+    here
+}
+
+// The lowest spot of step 1, into which an operation of any class may run over the end; `past` where there is none.
+fn first_spot(times: Timetable, past: u32) -> u32
+    requires { ⌜ Sound times ⌝ }
+    requires { ⌜ ((g : Loop) × ((p : Pair) × Timed g p times × Seated g p)) ⌝ }
+    requires { ⌜ past ≡ times .length * 4 + 4 ⌝ }
+    ensures { λ r. ⌜ ((g : Loop) (p : Pair) → Timed g p times → Seated g p → Lowest g p (FirstOf (g .classes)) r) ⌝ }
+{
+    let mut lowest = past;
+    for c in 0..times.classes {
+        let class = times.class[c as usize];
+        lowest = lower_spot(
+            times.length,
+            times.nodes,
+            &times.kind,
+            &times.start,
+            class,
+            c,
+            1,
+            lowest,
+        );
+    }
+    lowest
+}
+
+// Units with the lowest overfull step and its lowest class: that is step 1, or a node of the class starts there, or the step before would hold as much.
 pub fn crowded(times: Timetable) -> Refusal
     requires { ⌜ Sound times ⌝ }
     requires { ⌜ ((g : Loop) × ((p : Pair) × Timed g p times × Seated g p)) ⌝ }
     ensures { λ r. ⌜ ((g : Loop) (p : Pair) → Timed g p times → Seated g p → r ≡ unitsOf g p) ⌝ }
 {
     let past = spot(times.length, 4);
-    let mut lowest = past;
+    let mut lowest = first_spot(times, past);
     for v in 0..times.nodes {
         let i = v as usize;
         let number = times.kind[i];
         let step = times.start[i];
-        let here = spot(step, number);
-        if here < lowest {
-            let class = times.class[number as usize];
-            let busy = busy_in(
-                times.nodes,
-                &times.kind,
-                &times.start,
-                number,
-                hold_of(class),
-                step,
-            );
-            if class.units < busy {
-                lowest = here;
-            }
-        }
+        let class = times.class[number as usize];
+        lowest = lower_spot(
+            times.length,
+            times.nodes,
+            &times.kind,
+            &times.start,
+            class,
+            number,
+            step,
+            lowest,
+        );
     }
     if lowest < past {
         return Refusal::Units(lowest / 4, lowest % 4);

@@ -1,57 +1,37 @@
--- `rules::busy_in` meets its contract: the nodes passed are counted.
+-- `rules::busy_in` meets its contract: the nodes passed are summed up.
 -- Assumes nothing.
 use mathlib.Core.Path.{_≡_}
-use mathlib.Core.Logic.{⊎-elim}
-use Prim.Native.Nat.{_≤_, _-_}
+use Prim.Native.Nat.{_≤_, _-_, _*_}
 use native.Mathlib.Omega.{arith}
 use borrow.Author.Needs.{needs}
-use Rattle.lists.specs.Pick.{pick}
 use Rattle.rules.specs.Busy.{busyIn}
 use Rattle.rules.proofs.Laws.{busy-none, busy-more}
 use Rattle.rules.proofs.busy_in.Statement.{statement}
 use Rattle.rules.proofs.busy_in.Tie as tie
 
 abbrev Inv-loop : tie.InvT-loop
-Inv-loop nodes kind start class hold step busy₀ v₀ busy v = (v ≤ nodes) × (busy ≤ v) × (busy ≡ busyIn kind start class hold step v)
+Inv-loop length nodes kind start class hold step busy₀ v₀ busy v = (v ≤ nodes) × (busy ≤ 255 * v) × (busy ≡ busyIn length kind start class hold step v)
 
 abbrev μ-loop : tie.MeasureT-loop
-μ-loop nodes kind start class hold step busy₀ v₀ busy v = nodes - v
+μ-loop length nodes kind start class hold step busy₀ v₀ busy v = nodes - v
 
 loop-holds : tie.Need-loop-holds Inv-loop μ-loop
-loop-holds c = omega (arith, busy-none (c .args .kind .now) (c .args .start .now) (c .args .class) (c .args .hold) (c .args .step))
+loop-holds c =
+    let a = c .args in
+    omega (arith, busy-none (a .length) (a .kind .now) (a .start .now) (a .class) (a .hold) (a .step))
 
-cast-i : tie.Need-cast-i Inv-loop μ-loop
-cast-i c = search needs
-
-element-copy-out-occupies : tie.Need-element-copy-out-occupies Inv-loop μ-loop
-element-copy-out-occupies c = search needs
-
-mul-occupies : tie.Need-mul-occupies Inv-loop μ-loop
-mul-occupies c = search needs
-
-element-copy-out-occupies-2 : tie.Need-element-copy-out-occupies-2 Inv-loop μ-loop
-element-copy-out-occupies-2 c = search needs
-
-occupies-requires : tie.Need-occupies-requires Inv-loop μ-loop
-occupies-requires c κs = search needs
-
-add-busy : tie.Need-add-busy Inv-loop μ-loop
-add-busy c = search needs
-
-add-v : tie.Need-add-v Inv-loop μ-loop
-add-v c = search needs
-
-loop-less : tie.Need-loop-less Inv-loop μ-loop
-loop-less c = search needs
+held-on-requires : tie.Need-held-on-requires Inv-loop μ-loop
+held-on-requires c κs =
+    let l = c .before .before .before in
+    let p = l .before .pre in
+    let at = p .3 (l .loop .v) (omega arith) in
+    (at .0, at .1, p .1, p .2)
 
 loop-again : tie.Need-loop-again Inv-loop μ-loop
-unfolding pick
 loop-again c =
-    let o = c .before .occupies in
-    let l = c .before .before .before .before .before in
+    let l = c .before .before .before .before in
     let a = l .before .args in
-    let more = busy-more (a .kind .now) (a .start .now) (a .class) (a .hold) (a .step) (l .loop .v) _ (o .ensures) in
-    ⊎-elim (λ w. omega (arith, rw (w .0 .taken) at more)) (λ w. omega (arith, rw (w .0 .left) at more)) (c .if1 .came)
+    omega (arith, busy-more (a .length) (a .kind .now) (a .start .now) (a .class) (a .hold) (a .step) (l .loop .v) _ (c .held-on .ensures .0), c .held-on .ensures .1)
 
 returns : tie.Need-returns Inv-loop μ-loop
 returns c =
@@ -61,17 +41,4 @@ returns c =
 pub busy-in-spec : {M : Type 1} → statement M
 busy-in-spec =
     tie.close
-    (tie.spec
-    Inv-loop
-    μ-loop
-    loop-holds
-    cast-i
-    element-copy-out-occupies
-    mul-occupies
-    element-copy-out-occupies-2
-    occupies-requires
-    add-busy
-    add-v
-    loop-less
-    loop-again
-    returns)
+    (tie.spec Inv-loop μ-loop loop-holds (λ c. search needs) (λ c. search needs) (λ c. search needs) (λ c. search needs) held-on-requires (λ c. search needs) (λ c. search needs) (λ c. search needs) loop-again returns)
