@@ -2,21 +2,33 @@
 -- Assumes nothing.
 use mathlib.Core.Path.{_≡_, refl, sym, _∙_}
 use mathlib.Core.List.{List, [], _∷_}
-use Prim.Native.Nat.{ℕ, zero, suc, _+_, _-_, _≤_, _<_, max}
-use native.Mathlib.Nat.{not-suc-le-zero}
+use Prim.Native.Nat.{ℕ, zero, suc, _+_, _-_, _/_, _≤_, _<_, max}
+use native.Mathlib.Nat.{not-suc-le-zero, div-eq-of-lt, div-lt-iff-lt-mul, mul-le-mul-left}
 use native.Mathlib.Numerals.{add-one}
 use native.Mathlib.Omega.{arith}
-use lib.Dec.{leb}
 use lib.ListN.{length, getD, set, take}
 use Rattle.lists.specs.Place.{filled-more}
-use Rattle.lists.specs.Pick.{pick}
 use Rattle.lists.specs.Fold.{top}
+use Rattle.lists.specs.Quotient.{divided}
 use Rattle.legal.specs.Loop.{Loop, Pair}
 use Rattle.tables.specs.declared.Timetable.{Timetable}
 use Rattle.tables.specs.Edges.{Ends, Told}
 use Rattle.tables.specs.Times.{Timed}
 use Rattle.legal.specs.Systems.{lateness}
 use Rattle.fit.specs.Tables.{Limited}
+
+-- ---- how late an edge is, as the code computes it
+
+module _ (l f x : ℕ) (one : 1 ≤ x) (to : x ≤ l) where
+  pub late-none : f ≤ x → 0 ≡ (f + (l - 1) - x) / l
+  late-none h = sym (div-eq-of-lt {n = f + (l - 1) - x} {m = l} (omega arith))
+
+  pub late-one : x < f → f ≤ x + l → 1 ≡ (f + (l - 1) - x) / l
+  late-one h k = sym (divided 1 l (f - 1 - x) (f + (l - 1) - x) (omega arith) (omega arith) .0)
+
+  -- an operation of one body and 255 steps more is not late by more than fits
+  pub late-few : f ≤ l + 255 → (f + (l - 1) - x) / l ≤ 65535
+  late-few h = omega (arith, div-lt-iff-lt-mul {k = l} {x = f + (l - 1) - x} {y = 258} (omega arith) .1 (omega (arith, mul-le-mul-left {m = 1} {n = l} 258 (omega arith))))
 
 -- ---- the limits
 
@@ -40,12 +52,12 @@ module _ (g : Loop) (p : Pair) where
     gain-is e d l is = is ∙ sym (told .is-delay e l)
 
     pub cost-is : (e c : ℕ) → e < edges
-        → c ≡ pick (leb (getD (t .start) (getD from e 0) 0 + getD (t .latency) (getD from e 0) 0) (getD (t .start) (getD to e 0) 0)) 0 1 → c ≡ lateness g p e
+        → c ≡ (getD (t .start) (getD from e 0) 0 + getD (t .latency) (getD from e 0) 0 + (t .length - 1) - getD (t .start) (getD to e 0) 0) / t .length → c ≡ lateness g p e
     unfolding lateness
     cost-is e c l is =
         let u = ends .tail-in e l in
         let v = ends .head-in e l in
-        is ∙ rw (told .is-tail e l, told .is-head e l, timed .starts _ u, timed .starts _ v, timed .takes _ u)
+        is ∙ rw (told .is-tail e l, told .is-head e l, timed .starts _ u, timed .starts _ v, timed .takes _ u, timed .is-length)
 
 -- ---- the top of the first values
 

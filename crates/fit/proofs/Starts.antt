@@ -72,7 +72,7 @@ module _ (g : Loop) (p : Pair) (n m : ℕ) (ts hs gs cs : List ℕ) (d : Describ
 
     -- the top fits a byte
     pub tables-top : r .settled ≡ true → (h : ℕ) → h ≡ top (take n (r .values)) → h ≤ 63
-    tables-top b h e = omega (arith, topped, depth-bound g p (d .sound) (sym settles ∙ b))
+    tables-top b h e = omega (arith, topped, depth-bound g p (d .sound) (sym settles ∙ b) 1 (d .within))
 
     turns : (h : ℕ) → h ≡ top (take n (r .values)) → turnedOver h (r .values) n ≡ retimings g p
     unfolding turnedOver retimings turnedAt

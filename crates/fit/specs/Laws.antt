@@ -28,7 +28,7 @@ use Rattle.legal.specs.Loop.{Loop, Pair, graphOf, loopOf, pairOf}
 use Rattle.legal.specs.Legal.{UnitRule, Legal, Knot}
 use Rattle.legal.specs.Systems.{knotted, limits, Fits}
 use Rattle.legal.specs.Judging.{overStep, overClass, unitsOf, judgeOf}
-use Rattle.legal.specs.Shape.{sound-form, placed-form}
+use Rattle.legal.specs.Shape.{sound-form, placed-form, within-form}
 use Rattle.legal.specs.Knots.{Free, knot-knotted, knotted-knot, free-unknotted, unknotted-free}
 use Rattle.legal.specs.Fitted.{Settles, unsettled-unfit}
 use Rattle.legal.specs.Ruled.{LowestOver, over-lowest, over-none, lowest-over, kept-over}
@@ -55,7 +55,7 @@ module _ (f : Form) (w : WellFormed f) (n : f .length ≢ 0) (q : Settles (loopO
       starts =
           λ v l.
           let g = w .schedule n .starts v l in
-          record { begins = g .begins; ends = g .ends; retiming = retimings-small (loopOf f) (pairOf f) (sound-form f w) q v };
+          record { begins = g .begins; ends = g .ends; retiming = retimings-small (loopOf f) (pairOf f) (sound-form f w) q 1 (within-form f w n) v };
       least = retimings-zero (loopOf f) (pairOf f) (sound-form f w) q;
     };
   }
@@ -81,7 +81,7 @@ module _ (f : Form) (w : WellFormed f) (n : f .length ≢ 0) (q : Settles (loopO
     node = h .node;
     edge = h .edge;
     start = h .start;
-    retiming = λ v l. omega (arith, retimings-small (loopOf f) (pairOf f) (sound-form f w) q v);
+    retiming = λ v l. omega (arith, retimings-small (loopOf f) (pairOf f) (sound-form f w) q 1 (within-form f w n) v);
   }
 
   -- the reader takes its bytes

@@ -1,16 +1,16 @@
 -- The retiming found as a list: it fits, is of least depth and node by node the largest of those.
 -- Assumes nothing.
 use mathlib.Core.Path.{_≡_, _∙_}
-use Prim.Native.Nat.{ℕ, _-_, _≤_, _<_}
+use Prim.Native.Nat.{ℕ, _-_, _*_, _≤_, _<_}
 use native.Mathlib.Decide.{decLt}
 use native.Mathlib.Omega.{arith}
 use lib.ListN.{length, getD}
 use Rattle.lists.specs.Fold.{top, top-over, top-attained}
 use Rattle.lists.specs.Filled.{filled-at, filled-past, filled-length}
-use Rattle.legal.specs.Loop.{Loop, Pair}
-use Rattle.legal.specs.Legal.{UnitRule, Legal, busy, occupies}
+use Rattle.legal.specs.Loop.{Loop, Pair, reach}
+use Rattle.legal.specs.Legal.{UnitRule, Legal, busy}
 use Rattle.legal.specs.Systems.{lateness, Fits}
-use Rattle.legal.specs.Shape.{Sound, Bodied}
+use Rattle.legal.specs.Shape.{Sound, Bodied, Within, bodied-within}
 use Rattle.legal.specs.Limits.{fit-edges}
 use Rattle.legal.specs.Fitted.{depth, fitted, Settles, fitted-fits, depth-bound, fitted-depth, fitted-zero, fitted-top, fits-depth, fits-under}
 use Rattle.fit.specs.Retimed.{retimings}
@@ -32,7 +32,7 @@ module _ (g : Loop) (p : Pair) where
 
   -- the starts with that retiming
   abbrev pub retimedPair : Pair
-  retimedPair = record { start = p .start; length = p .length; retiming = λ v. getD (retimings g p) v 0 }
+  retimedPair = record { kind = p .kind; start = p .start; length = p .length; retiming = λ v. getD (retimings g p) v 0 }
 
   module _ (s : Sound g) (q : Settles g p) where
     under-depth : (v : ℕ) → getD (retimings g p) v 0 ≤ depth g p
@@ -49,9 +49,9 @@ module _ (g : Loop) (p : Pair) where
         let a = top-attained (retimings g p) (omega (arith, retimings-length (s .few))) in
         omega (arith, t .2, retimings-at (t .0) (t .1), top-over (retimings g p) (t .0), a .2, under-depth (a .0))
 
-    -- none is above 63
-    pub retimings-small : (v : ℕ) → getD (retimings g p) v 0 ≤ 63
-    retimings-small v = omega (arith, under-depth v, depth-bound g p s q)
+    -- none is above 63 for each body that an operation reaches into
+    pub retimings-small : (n : ℕ) → Within g p n → (v : ℕ) → getD (retimings g p) v 0 ≤ 63 * n
+    retimings-small n b v = omega (arith, under-depth v, depth-bound g p s q n b)
 
     -- the smallest is 0
     pub retimings-zero : (v : ℕ) × (v < g .graph .nodes) × _≡_ {A = ℕ} (getD (retimings g p) v 0) 0
@@ -72,14 +72,14 @@ module _ (g : Loop) (p : Pair) where
 
     -- starts in the body that keep the unit rule are legal with it
     pub retimings-legal : (1 ≤ p .length) × (p .length ≤ 512) → Bodied g p → UnitRule g p → Legal g retimedPair
-    unfolding lateness busy occupies
+    unfolding lateness busy
     retimings-legal steps b units =
         let body : Bodied g retimedPair = λ v l. record { begins = b v l .begins; ends = b v l .ends } in
         record {
           steps = steps;
           body = body;
-          retimings = λ v l. retimings-small v;
+          retimings = λ v l. retimings-small (reach (p .kind)) (bodied-within g p s b) v;
           least = retimings-zero;
-          edges = fit-edges g retimedPair s body retimings-fit;
+          edges = fit-edges g retimedPair s (reach (p .kind)) (bodied-within g retimedPair s body) retimings-fit;
           units = units;
         }

@@ -7,7 +7,7 @@ use lib.ListN.{getD}
 use Rattle.lists.specs.Filled.{filled}
 use Rattle.legal.specs.Loop.{Loop, Pair}
 use Rattle.legal.specs.Systems.{lateness}
-use Rattle.legal.specs.Shape.{Sound}
+use Rattle.legal.specs.Shape.{Sound, Within}
 use Rattle.tables.specs.Edges.{Told}
 
 -- the tables hold the delays and the lateness of the first n edges
@@ -19,9 +19,10 @@ pub record Limited (g : Loop) (p : Pair) (n : ℕ) (gains costs : List ℕ) : Ty
 unfoldable pub turnedOver : ℕ → List ℕ → ℕ → List ℕ
 turnedOver h ys n = filled 64 (λ v. h - getD ys v 0) n
 
--- the tables are the edges of a loop with latencies 1 to 8, and the limits of its starts
+-- the tables are the edges of a loop with latencies 1 to 8, and the limits of its starts, whose operations end in the body
 pub record Described (g : Loop) (p : Pair) (n m : ℕ) (tails heads gains costs : List ℕ) : Type 0 where
   pub sound : Sound g
+  pub within : Within g p 1
   pub told : Told g n m tails heads gains
   pub late : (e : ℕ) → e < m → getD costs e 0 ≡ lateness g p e
 
@@ -31,9 +32,10 @@ Tabled n m tails heads gains costs = (g : Loop) × ((p : Pair) × Described g p 
 
 -- edges that are told, with their delays and lateness, are such tables
 pub described : (g : Loop) (p : Pair) (n m : ℕ) (tails heads delays gains costs : List ℕ)
-    → Sound g → Told g n m tails heads delays → Limited g p m gains costs → Described g p n m tails heads gains costs
-described g p n m tails heads delays gains costs sound told limited = record {
+    → Sound g → Within g p 1 → Told g n m tails heads delays → Limited g p m gains costs → Described g p n m tails heads gains costs
+described g p n m tails heads delays gains costs sound within told limited = record {
   sound = sound;
+  within = within;
   told = record {
     all-nodes = told .all-nodes;
     all-edges = told .all-edges;

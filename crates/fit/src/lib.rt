@@ -2,10 +2,8 @@
 ghost use mathlib.Core.Bool.{true};
 ghost use mathlib.Core.Logic.{_≢_};
 ghost use mathlib.Core.Path.{_≡_};
-ghost use Prim.Native.Nat.{ℕ, _+_, _≤_, _<_};
-ghost use lib.Dec.{leb};
+ghost use Prim.Native.Nat.{ℕ, _+_, _-_, _/_, _≤_, _<_};
 ghost use lib.ListN.{length, getD, take, replicate};
-ghost use Rattle.lists.specs.Pick.{pick};
 ghost use Rattle.lists.specs.Fold.{top};
 ghost use Rattle.form.specs.declared.Form.{Form};
 ghost use Rattle.answer.specs.Refused.{fine};
@@ -14,6 +12,7 @@ ghost use Rattle.legal.specs.Loop.{Loop, Pair, loopOf, pairOf};
 ghost use Rattle.tables.specs.Edges.{Ends, Told};
 ghost use Rattle.tables.specs.Times.{Timed};
 ghost use Rattle.tables.specs.Lent.{Lent};
+ghost use Rattle.rules.specs.Busy.{StartsIn};
 ghost use Rattle.reader.specs.Reading.{readForm};
 ghost use Rattle.writer.specs.Layout.{layout};
 ghost use Rattle.writer.specs.Writing.{bufferAfter};
@@ -60,17 +59,22 @@ fn wide(x: u8) -> u16
     x as u16
 }
 
-// 0 where a node that starts at `start` is finished when another starts at `next`, else 1.
-fn late(start: u16, latency: u8, next: u16) -> u16
-    ensures { λ r. ⌜ r ≡ pick (leb (start + latency) next) 0 1 ⌝ }
+// How many bodies after the one in which a node starts at `start` another can start at `next`: what it is late by, over the length, rounded up.
+fn late(length: u16, start: u16, latency: u8, next: u16) -> u16
+    requires { ⌜ (start ≤ length) × (1 ≤ next) × (next ≤ length) ⌝ }
+    ensures { λ r. ⌜ r ≡ (start + latency + (length - 1) - next) / length ⌝ }
 {
-    if start as u32 + latency as u32 <= next as u32 {
+    let finish = start as u32 + latency as u32;
+    if finish <= next as u32 {
         return 0;
     }
-    1
+    if finish <= next as u32 + length as u32 {
+        return 1;
+    }
+    ((finish + (length as u32 - 1) - next as u32) / length as u32) as u16
 }
 
-// The delays of the edges, and which of them are late by a body.
+// The delays of the edges, and how many bodies each is late by.
 fn limits_of<'a>(
     edges: u16,
     from: &'a [u8; 256],
@@ -78,9 +82,10 @@ fn limits_of<'a>(
     delays: &'a [u8; 256],
     times: Timetable,
 ) -> Limits
-    requires { ⌜ Ends (times .nodes) edges (now from) (now to) ⌝ }
+    requires { ⌜ Ends (times .nodes) edges (now from) (now to) × StartsIn (times .length) (times .start) (times .nodes) ⌝ }
     ensures { λ t. ⌜ ((g : Loop) (p : Pair) → Told g (times .nodes) edges (now (from .entry)) (now (to .entry)) (now (delays .entry)) → Timed g p times → Limited g p edges (t .gains) (t .costs)) ⌝ }
 {
+    let length = times.length;
     let mut gains = [0u16; 256];
     let mut costs = [0u16; 256];
     let mut e: usize = 0;
@@ -88,7 +93,12 @@ fn limits_of<'a>(
         let tail = from[e] as usize;
         let head = to[e] as usize;
         let gain = wide(delays[e]);
-        let cost = late(times.start[tail], times.latency[tail], times.start[head]);
+        let cost = late(
+            length,
+            times.start[tail],
+            times.latency[tail],
+            times.start[head],
+        );
         gains[e] = gain;
         costs[e] = cost;
         e += 1;

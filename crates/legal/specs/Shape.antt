@@ -85,3 +85,8 @@ placed-form f w n =
       retimings = λ v l. s .starts v l .retiming;
       least = s .least;
     }
+
+-- its operations end in the body
+pub within-form : (f : Form) → WellFormed f → f .length ≢ 0 → Within (loopOf f) (pairOf f) 1
+unfolding pairOf reach
+within-form f w n = bodied-within (loopOf f) (pairOf f) (sound-form f w) (placed-form f w n .body)

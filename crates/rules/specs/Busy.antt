@@ -12,7 +12,7 @@ use Rattle.form.specs.declared.Form.{Form}
 use Rattle.form.specs.Ranges.{WellFormed}
 use Rattle.legal.specs.Loop.{Loop, Pair, graphOf, loopOf, pairOf, runsOn}
 use Rattle.legal.specs.Held.{held}
-use Rattle.legal.specs.Shape.{Starting, bodied-within, sound-form, placed-form}
+use Rattle.legal.specs.Shape.{Starting, placed-form, within-form}
 
 -- how often an operation on class k that starts at s holds a unit of class c, which is held for h steps, in step q of a body of l steps
 unfoldable pub heldOn : ℕ → ℕ → ℕ → ℕ → ℕ → ℕ → ℕ
@@ -39,6 +39,6 @@ unfolding loopOf pairOf graphOf
 seated-form f w n = record {
   few = w .classes .1;
   long = placed-form f w n .steps .0;
-  starts = bodied-within (loopOf f) (pairOf f) (sound-form f w) (placed-form f w n .body) .starts;
+  starts = within-form f w n .starts;
   class = w .node;
 }

@@ -14,10 +14,10 @@ use Rattle.fit.proofs.limits_of.Statement.{statement}
 use Rattle.fit.proofs.limits_of.Tie as tie
 
 abbrev Inv-loop : tie.InvT-loop
-Inv-loop edges from to delays times gains₀ costs₀ e₀ gains costs e = (e ≤ edges) × (length gains ≡ 256) × (length costs ≡ 256) × ((g : Loop) (p : Pair) → Told g (times .nodes) edges from to delays → Timed g p times → Limited g p e gains costs)
+Inv-loop edges from to delays times long gains₀ costs₀ e₀ gains costs e = (e ≤ edges) × (length gains ≡ 256) × (length costs ≡ 256) × ((g : Loop) (p : Pair) → Told g (times .nodes) edges from to delays → Timed g p times → Limited g p e gains costs)
 
 abbrev μ-loop : tie.MeasureT-loop
-μ-loop edges from to delays times gains₀ costs₀ e₀ gains costs e = edges - e
+μ-loop edges from to delays times long gains₀ costs₀ e₀ gains costs e = edges - e
 
 loop-holds : tie.Need-loop-holds Inv-loop μ-loop
 loop-holds c = (search needs, search needs, search needs, λ g p told timed. limited-none g p _ _)
@@ -28,12 +28,12 @@ element-copy-out-tail c = search needs
 -- an edge's nodes are places of the timetable
 tail-in : (c : tie.In-loop Inv-loop μ-loop) → getD (c .before .before .args .from .now) (c .before .loop .e) 0 < 64
 tail-in c =
-    let w = c .before .before .pre in
+    let w = c .before .before .pre .0 in
     omega (arith, w .tail-in (c .before .loop .e) (omega arith), w .most)
 
 head-in : (c : tie.In-loop Inv-loop μ-loop) → getD (c .before .before .args .to .now) (c .before .loop .e) 0 < 64
 head-in c =
-    let w = c .before .before .pre in
+    let w = c .before .before .pre .0 in
     omega (arith, w .head-in (c .before .loop .e) (omega arith), w .most)
 
 cast-tail : tie.Need-cast-tail Inv-loop μ-loop
@@ -67,7 +67,13 @@ element-copy-out-late-3 : tie.Need-element-copy-out-late-3 Inv-loop μ-loop
 element-copy-out-late-3 c = omega (arith, head-in (c .before .before .before .before .before .before))
 
 late-requires : tie.Need-late-requires Inv-loop μ-loop
-late-requires c κs = search needs
+late-requires c κs =
+    let l = c .before .before .before .before .before .before .before .before in
+    let b = l .before in
+    let p = b .pre in
+    let u = p .1 _ (p .0 .tail-in (l .loop .e) (omega arith)) in
+    let v = p .1 _ (p .0 .head-in (l .loop .e) (omega arith)) in
+    (u .1, v .0, v .1)
 
 mul-gains : tie.Need-mul-gains Inv-loop μ-loop
 mul-gains c = search needs
@@ -96,8 +102,8 @@ loop-again c =
       search needs,
       search needs,
       λ g p told timed. limited-more g p (l .e) _ _ _ _ (omega arith) (omega arith)
-          (gain-is g p _ _ _ _ _ (b .pre) told timed (l .e) _ e-in (c .before .before .before .before .wide .ensures .0))
-          (cost-is g p _ _ _ _ _ (b .pre) told timed (l .e) _ e-in (c .late .ensures))
+          (gain-is g p _ _ _ _ _ (b .pre .0) told timed (l .e) _ e-in (c .before .before .before .before .wide .ensures .0))
+          (cost-is g p _ _ _ _ _ (b .pre .0) told timed (l .e) _ e-in (c .late .ensures))
           (l .inv .3 g p told timed),
     )
 
