@@ -1,26 +1,20 @@
--- (b) by itself bounds the length of every legal pair: the busy steps of a class, counted by operations and by steps.
+-- (b) by itself bounds the length of every pair that keeps the unit rule: the busy steps of a class, counted by operations and by steps.
 -- Assumes nothing.
-use mathlib.Core.Path.{_≡_, refl, sym, ap, subst, _∙_}
-use mathlib.Core.Bool.{Bool, true, false, _&&_}
+use mathlib.Core.Path.{_≡_, sym, ap, _∙_}
+use mathlib.Core.Bool.{Bool, true, false}
 use Prim.Native.Nat.{ℕ, zero, suc, _+_, _-_, _*_, _/_, _≤_, _<_}
 use native.Mathlib.Omega.{arith}
-use native.Mathlib.Nat.{div-zero, div-lt-iff-lt-mul, suc-mul, mul-comm, mul-zero, le-of-suc-le-suc}
-use lib.Dec.{eqb, leb, ltb}
-use borrow.Author.Tests.{eqb-true}
-use Rattle.lists.specs.Pick.{pick, pick-ind}
+use native.Mathlib.Nat.{div-zero, div-lt-iff-lt-mul, suc-mul, mul-comm, mul-zero, mul-one, le-of-suc-le-suc}
+use lib.Dec.{eqb}
+use Rattle.lists.specs.Pick.{pick}
 use Rattle.lists.specs.Span.{span}
 use Rattle.lists.specs.Fold.{sumOf, sum-times}
-use Rattle.lists.specs.Sums.{bit, sum-swap, sum-zero, sum-same, sum-le, sum-each, count-sum, window-sum, top-under}
-use Rattle.form.specs.declared.Class.{Class}
-use Rattle.legal.specs.Loop.{Loop, Pair, runsOn, latency, hold}
-use Rattle.legal.specs.Legal.{InBody, occupies, busy, Legal}
+use Rattle.lists.specs.Sums.{bit, sum-swap, sum-zero, sum-same, sum-le, sum-each, count-sum, top-under}
+use Rattle.legal.specs.Loop.{Loop, Pair, runsOn, hold}
+use Rattle.legal.specs.Held.{held, held-total}
+use Rattle.legal.specs.Legal.{busy, UnitRule, Legal}
 use Rattle.legal.specs.Shape.{Sound}
 use Rattle.floor.specs.Parts.{nodesOn, unitsPart, unitsParts}
-
--- an operation that takes a step holds its unit no longer than it takes
-hold-le : (k : Class) → 1 ≤ k .latency → hold k ≤ k .latency
-unfolding hold
-hold-le k one = pick-ind (λ h. h ≤ k .latency) (eqb (k .pipelined) 0) (k .latency) 1 (λ _. omega arith) (λ _. one)
 
 -- what fits on so many units in so many steps takes no more steps than these
 rounded-up : (n units steps : ℕ) → n ≤ steps * units → (n + (units - 1)) / units ≤ steps
@@ -29,52 +23,47 @@ rounded-up n (suc k) steps h =
     let below : n + (suc k - 1) < suc steps * suc k = omega (arith, suc-mul steps (suc k)) in
     le-of-suc-le-suc (div-lt-iff-lt-mul (omega arith) .1 below)
 
-module _ (g : Loop) (p : Pair) (c : ℕ) where
-  -- 1 where node v occupies class c in step q
-  abbrev occupied : ℕ → ℕ → ℕ
-  occupied q v = bit (occupies g p c q v)
+module _ (g : Loop) (p : Pair) (c : ℕ) (some : 1 ≤ p .length) where
+  -- how often node v holds class c in step q
+  abbrev taken : ℕ → ℕ → ℕ
+  taken q v = pick (eqb (runsOn g v) c) (held (p .length) (p .start v) (hold (g .class c)) q) 0
 
-  -- a node of the class occupies it for as many steps of the body as it holds, another for none
-  steps-held : (v : ℕ) → 1 ≤ latency g v → InBody g p v → sumOf (λ q. occupied q v) (span 1 (p .length)) ≡ hold (g .class c) * bit (eqb (runsOn g v) c)
-  unfolding occupies pick
-  steps-held v one b = go (eqb (runsOn g v) c) refl
+  -- over the body a node of the class holds it as often as an operation does, another never
+  steps-held : (v : ℕ) → sumOf (λ q. taken q v) (span 1 (p .length)) ≡ hold (g .class c) * bit (eqb (runsOn g v) c)
+  unfolding pick
+  steps-held v = go (eqb (runsOn g v) c)
     where
-      go : (t : Bool) → eqb (runsOn g v) c ≡ t
-          → sumOf (λ q. bit (t && (leb (p .start v) q && ltb q (p .start v + hold (g .class c))))) (span 1 (p .length)) ≡ hold (g .class c) * bit t
-      go true e =
-          let short : hold (g .class c) ≤ latency g v = subst (λ k. hold (g .class k) ≤ latency g v) (eqb-true (runsOn g v) c e) (hold-le (g .class (runsOn g v)) one) in
-          window-sum (p .start v) (hold (g .class c)) 1 (p .length) ∙ omega (arith, b .begins, b .ends)
-      go false e = sum-zero (span 1 (p .length)) ∙ sym (mul-zero (hold (g .class c)))
+      go : (t : Bool) → sumOf (λ q. pick t (held (p .length) (p .start v) (hold (g .class c)) q) 0) (span 1 (p .length)) ≡ hold (g .class c) * bit t
+      go true = held-total (p .length) (p .start v) some (hold (g .class c)) ∙ sym (mul-one (hold (g .class c)))
+      go false = sum-zero (span 1 (p .length)) ∙ sym (mul-zero (hold (g .class c)))
 
-  module _ (s : Sound g) (legal : Legal g p) where
-    -- the busy steps of the class, step by step and node by node
-    steps-busy : sumOf (busy g p c) (span 1 (p .length)) ≡ hold (g .class c) * nodesOn g c
-    unfolding busy nodesOn
-    steps-busy =
-        sum-same (busy g p c) (λ q. sumOf (occupied q) (span 0 (g .graph .nodes))) 1 (p .length) (λ q l m. count-sum (occupies g p c q) (span 0 (g .graph .nodes)))
-        ∙ sum-swap occupied (span 1 (p .length)) (span 0 (g .graph .nodes))
-        ∙ sum-same (λ v. sumOf (λ q. occupied q v) (span 1 (p .length))) (λ v. hold (g .class c) * bit (eqb (runsOn g v) c)) 0 (g .graph .nodes)
-        (λ v l m. steps-held v (s .works v (omega arith)) (legal .body v (omega arith)))
-        ∙ sum-times (hold (g .class c)) (λ v. bit (eqb (runsOn g v) c)) (span 0 (g .graph .nodes))
-        ∙ ap (λ (n : ℕ). hold (g .class c) * n) (sym (count-sum (λ v. eqb (runsOn g v) c) (span 0 (g .graph .nodes))))
+  -- the busy steps of the class, step by step and node by node
+  steps-busy : sumOf (busy g p c) (span 1 (p .length)) ≡ hold (g .class c) * nodesOn g c
+  unfolding busy nodesOn
+  steps-busy =
+      sum-swap taken (span 1 (p .length)) (span 0 (g .graph .nodes))
+      ∙ sum-same (λ v. sumOf (λ q. taken q v) (span 1 (p .length))) (λ v. hold (g .class c) * bit (eqb (runsOn g v) c)) 0 (g .graph .nodes) (λ v l m. steps-held v)
+      ∙ sum-times (hold (g .class c)) (λ v. bit (eqb (runsOn g v) c)) (span 0 (g .graph .nodes))
+      ∙ ap (λ (n : ℕ). hold (g .class c) * n) (sym (count-sum (λ v. eqb (runsOn g v) c) (span 0 (g .graph .nodes))))
 
-    -- they fit on the units
-    busy-fits : c < g .classes → nodesOn g c * hold (g .class c) ≤ p .length * g .class c .units
-    busy-fits l =
-        omega (
-          arith,
-          mul-comm (nodesOn g c) (hold (g .class c)),
-          steps-busy,
-          sum-le (busy g p c) (λ q. g .class c .units) 1 (p .length) (λ q one m. legal .units q c one (omega arith) l),
-          sum-each (g .class c .units) 1 (p .length),
-        )
+  -- they fit on the units, so no body is shorter than the busy steps over the units, rounded up
+  rule-bound : UnitRule g p → c < g .classes → unitsPart g c ≤ p .length
+  unfolding unitsPart
+  rule-bound rule l =
+      rounded-up (nodesOn g c * hold (g .class c)) (g .class c .units) (p .length)
+      (omega (
+        arith,
+        mul-comm (nodesOn g c) (hold (g .class c)),
+        steps-busy,
+        sum-le (busy g p c) (λ q. g .class c .units) 1 (p .length) (λ q one m. rule q c one (omega arith) l),
+        sum-each (g .class c .units) 1 (p .length),
+      ))
 
-    -- no legal pair is shorter than the busy steps of a class over its units, rounded up
-    pub units-bound : c < g .classes → unitsPart g c ≤ p .length
-    unfolding unitsPart
-    units-bound l = rounded-up (nodesOn g c * hold (g .class c)) (g .class c .units) (p .length) (busy-fits l)
+-- no legal pair is
+pub units-bound : (g : Loop) (p : Pair) (c : ℕ) → Legal g p → c < g .classes → unitsPart g c ≤ p .length
+units-bound g p c legal l = rule-bound g p c (legal .steps .0) (legal .units) l
 
--- nor than the largest of all classes
-pub all-units-bound : (g : Loop) (p : Pair) → Sound g → Legal g p → unitsParts g ≤ p .length
+-- nor shorter than the largest of all classes
+pub all-units-bound : (g : Loop) (p : Pair) → Legal g p → unitsParts g ≤ p .length
 unfolding unitsParts
-all-units-bound g p s legal = top-under (unitsPart g) (p .length) (g .classes) (λ c l. units-bound g p c s legal l)
+all-units-bound g p legal = top-under (unitsPart g) (p .length) (g .classes) (λ c l. units-bound g p c legal l)

@@ -1,6 +1,6 @@
 -- What a well-formed form says of its loop and its pair.
 -- Assumes nothing.
-use mathlib.Core.Path.{_≡_, subst}
+use mathlib.Core.Path.{_≡_, refl, subst}
 use mathlib.Core.Logic.{_≢_}
 use Prim.Native.Nat.{ℕ, _+_, _*_, _≤_, _<_}
 use native.Mathlib.Omega.{arith}
@@ -90,3 +90,8 @@ placed-form f w n =
 pub within-form : (f : Form) → WellFormed f → f .length ≢ 0 → Within (loopOf f) (pairOf f) 1
 unfolding pairOf reach
 within-form f w n = bodied-within (loopOf f) (pairOf f) (sound-form f w) (placed-form f w n .body)
+
+-- a form holds no kind: its pair is plain
+pub plain-form : (f : Form) → pairOf f .kind ≡ plain
+unfolding pairOf
+plain-form f = refl

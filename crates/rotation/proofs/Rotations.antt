@@ -14,9 +14,9 @@ use Rattle.form.specs.declared.Form.{Form}
 use Rattle.form.specs.declared.BodyStep.{BodyStep}
 use Rattle.form.specs.Places.{retimingOf}
 use Rattle.form.specs.Ranges.{WellFormed}
-use Rattle.legal.specs.Loop.{Loop, Pair, graphOf, loopOf, pairOf}
+use Rattle.legal.specs.Loop.{plain, Loop, Pair, graphOf, loopOf, pairOf}
 use Rattle.legal.specs.Legal.{Legal}
-use Rattle.legal.specs.Shape.{sound-form}
+use Rattle.legal.specs.Shape.{sound-form, plain-form, plain-ends}
 use Rattle.legal.specs.Systems.{lateness, limits}
 use Rattle.legal.specs.Fitted.{Settles}
 use Rattle.fit.specs.declared.Fitting.{Fitting}
@@ -64,16 +64,16 @@ pub tabled-form : (f : Form) → length (f .start) ≡ 64 → Tabled (loopOf f) 
 unfolding pairOf startsOf
 tabled-form f n = record { long = numbers-length (f .start) ∙ n; is = λ v l. sym (start-at f v) }
 
--- a retiming is fitted to the starts alone
-start-alone : (g : Loop) (p q : Pair) → p .start ≡ q .start → retimings g p ≡ retimings g q
+-- a retiming is fitted to the starts and the length alone
+start-alone : (g : Loop) (p q : Pair) → p .start ≡ q .start → p .length ≡ q .length → retimings g p ≡ retimings g q
 unfolding retimings limits lateness
-start-alone g p q e = λ i. retimings g (record { start = e i; length = q .length; retiming = q .retiming })
+start-alone g p q e l = λ i. retimings g (record { kind = q .kind; start = e i; length = l i; retiming = q .retiming })
 
 module _ (f : Form) (w : WellFormed f) (legal : Legal (loopOf f) (pairOf f)) (z : ℕ) (one : 1 ≤ z) (below : z < f .length) (n : length (f .start) ≡ 64) where
   -- the length is 1 to 1023
   pub rotated-length : (1 ≤ rotatedLength f z) × (rotatedLength f z ≤ 1023)
   unfolding rotatedLength rotatedStarts pairOf
-  rotated-length = turned-length (loopOf f) (pairOf f) z (startsOf f) (sound-form f w) legal (tabled-form f n) (staffed-form f w) one below (w .length)
+  rotated-length = turned-length (loopOf f) (pairOf f) z (startsOf f) (sound-form f w) (plain-form f) legal (tabled-form f n) (staffed-form f w) one below (w .length)
 
   rotated-soon : (v : ℕ) → v < f .nodes → startAt (rotatedStarts f z) v ≤ 1023
   unfolding rotatedLength loopOf graphOf
@@ -97,7 +97,7 @@ module _ (f : Form) (w : WellFormed f) (legal : Legal (loopOf f) (pairOf f)) (z 
     edge = w .edge;
     schedule = λ _. record {
       starts = λ v l. record {
-        begins = omega (arith, step-at (rotatedStarts f z) v, turned-filled (loopOf f) (pairOf f) z (startsOf f) (sound-form f w) legal (tabled-form f n) (staffed-form f w) one below (w .length) .placed v l);
+        begins = omega (arith, step-at (rotatedStarts f z) v, turned-filled (loopOf f) (pairOf f) z (startsOf f) (sound-form f w) (plain-form f) legal (tabled-form f n) (staffed-form f w) one below (w .length) .placed v l);
         ends = omega (arith, step-at (rotatedStarts f z) v, length-ends (loopOf f) (rotatedStarts f z) v l);
         retiming = omega (arith, zeros-at 64 v);
       };
@@ -106,14 +106,14 @@ module _ (f : Form) (w : WellFormed f) (legal : Legal (loopOf f) (pairOf f)) (z 
   }
 
   turned-settled : Settles (loopOf f) (pairOf (turnedForm f z))
-  unfolding rotatedStarts pairOf
+  unfolding rotatedStarts rotatedLength pairOf turnedForm withPair
   turned-settled =
-      turned-settles (loopOf f) (pairOf f) z (startsOf f) (sound-form f w) legal (tabled-form f n) (staffed-form f w) one below (w .length)
-      (pairOf (turnedForm f z)) (λ v l. turned-starts-pair v)
+      turned-settles (loopOf f) (pairOf f) z (startsOf f) (sound-form f w) (plain-form f) legal (tabled-form f n) (staffed-form f w) one below (w .length)
+      (pairOf (turnedForm f z)) (λ v l. turned-starts-pair v) refl refl
 
   -- the pair that the retiming is fitted to
   unfoldable turnedBy : Pair
-  turnedBy = record { start = startAt (rotatedStarts f z); length = rotatedLength f z; retiming = gainedBy (pairOf f) z }
+  turnedBy = record { kind = plain; start = startAt (rotatedStarts f z); length = rotatedLength f z; retiming = gainedBy (pairOf f) z }
 
   module _ (t : Form) (is : t ≡ turnedForm f z) where
     length-is : t .length ≡ rotatedLength f z
@@ -136,8 +136,8 @@ module _ (f : Form) (w : WellFormed f) (legal : Legal (loopOf f) (pairOf f)) (z 
         here = subst (λ g. StartsFitted g (pairOf (turnedForm f z)) x) (same-loop f _ _ _) (subst (λ (h : Form). StartsFitted (loopOf h) (pairOf h) x) is fit)
 
         same-retimings : retimings (loopOf f) (pairOf (turnedForm f z)) ≡ retimings (loopOf f) turnedBy
-        unfolding turnedBy
-        same-retimings = start-alone (loopOf f) (pairOf (turnedForm f z)) turnedBy (λ i v. turned-starts-pair v i)
+        unfolding turnedBy turnedForm withPair pairOf
+        same-retimings = start-alone (loopOf f) (pairOf (turnedForm f z)) turnedBy (λ i v. turned-starts-pair v i) refl
 
         retiming-is : x .retiming ≡ retimings (loopOf f) turnedBy
         retiming-is = here .retiming (here .fits ∙ turned-settled) ∙ same-retimings
@@ -165,7 +165,7 @@ module _ (f : Form) (w : WellFormed f) (legal : Legal (loopOf f) (pairOf f)) (z 
     ends-good = record {
       at = λ v l.
           let at : startAt ls v ≡ startAt (startsOf f) v - z = ap (λ (xs : List ℕ). startAt xs v) low ∙ dropped-at z (startsOf f) v in
-          omega (arith, step-at ls v, at, start-at f v, legal .body v l .ends, w .length, sound-form f w .short v l);
+          omega (arith, step-at ls v, at, start-at f v, plain-ends (loopOf f) (pairOf f) (plain-form f) v (legal .body v l), w .length, sound-form f w .short v l);
     }
 
     pub turn-ends : Ends b

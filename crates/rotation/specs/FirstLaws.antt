@@ -23,7 +23,7 @@ use Rattle.writer.specs.Layout.{layout}
 use Rattle.writer.specs.Writing.{refusalOf}
 use Rattle.record.specs.Held.{Held}
 use Rattle.record.specs.Written.{well-formed-written}
-use Rattle.legal.specs.Loop.{Loop, graphOf, loopOf, pairOf}
+use Rattle.legal.specs.Loop.{plain, Loop, graphOf, loopOf, pairOf}
 use Rattle.legal.specs.Legal.{Legal}
 use Rattle.legal.specs.Systems.{knotted}
 use Rattle.legal.specs.Judging.{judgeOf}
@@ -136,6 +136,7 @@ module _ (f : Form) (w : WellFormed f) (free : knotted (loopOf f) ≡ false) whe
   first-pair-is : pairOf (firstForm f) ≡ firstPair (loopOf f)
   unfolding firstForm withPair pairOf firstPair
   first-pair-is = λ i. record {
+    kind = plain;
     start = λ v. step-at (firstStarts (loopOf f)) v i;
     length = lengthOf (loopOf f) (firstStarts (loopOf f));
     retiming = λ v. zeros-at 64 v i;

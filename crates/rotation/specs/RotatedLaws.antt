@@ -23,12 +23,12 @@ use Rattle.writer.specs.Layout.{layout}
 use Rattle.writer.specs.Writing.{refusalOf}
 use Rattle.record.specs.Held.{Held}
 use Rattle.record.specs.Written.{well-formed-written}
-use Rattle.legal.specs.Loop.{Loop, Pair, graphOf, loopOf, pairOf}
+use Rattle.legal.specs.Loop.{plain, reach, Loop, Pair, graphOf, loopOf, pairOf}
 use Rattle.legal.specs.Legal.{Legal}
 use Rattle.legal.specs.Fitted.{Settles}
 use Rattle.legal.specs.Judging.{judgeOf}
 use Rattle.legal.specs.Judged.{accepts-judge}
-use Rattle.legal.specs.Shape.{sound-form}
+use Rattle.legal.specs.Shape.{sound-form, plain-form, Within, bodied-within}
 use Rattle.fit.specs.Retimed.{retimings}
 use Rattle.fit.specs.Retimings.{retimings-length, retimings-small, retimings-zero, retimedPair, retimings-legal}
 use Rattle.list_rule.specs.Rule.{startAt}
@@ -51,16 +51,23 @@ tabled f n = record { long = length-map (f .start) (λ (b : BodyStep). b .0) ∙
 
 -- the pair that the retiming is fitted to
 unfoldable turnedBy : Form → ℕ → Pair
-turnedBy f z = record { start = startAt (rotatedStarts f z); length = rotatedLength f z; retiming = gainedBy (pairOf f) z }
+turnedBy f z = record { kind = plain; start = startAt (rotatedStarts f z); length = rotatedLength f z; retiming = gainedBy (pairOf f) z }
 
 module _ (f : Form) (w : WellFormed f) (legal : Legal (loopOf f) (pairOf f)) (z : ℕ) (one : 1 ≤ z) (below : z < f .length) (n : length (f .start) ≡ 64) where
   placed : (v : ℕ) → v < loopOf f .graph .nodes → 0 < startAt (rotatedStarts f z) v
   unfolding rotatedStarts pairOf
-  placed v l = turned-filled (loopOf f) (pairOf f) z (startsOf f) (sound-form f w) legal (tabled f n) (staffed-form f w) one below (w .length) .placed v l
+  placed v l = turned-filled (loopOf f) (pairOf f) z (startsOf f) (sound-form f w) (plain-form f) legal (tabled f n) (staffed-form f w) one below (w .length) .placed v l
 
   settles : Settles (loopOf f) (turnedBy f z)
-  unfolding turnedBy rotatedStarts pairOf
-  settles = turned-settles (loopOf f) (pairOf f) z (startsOf f) (sound-form f w) legal (tabled f n) (staffed-form f w) one below (w .length) (turnedBy f z) (λ v l. refl)
+  unfolding turnedBy rotatedStarts rotatedLength pairOf
+  settles = turned-settles (loopOf f) (pairOf f) z (startsOf f) (sound-form f w) (plain-form f) legal (tabled f n) (staffed-form f w) one below (w .length) (turnedBy f z) (λ v l. refl) refl refl
+
+  -- the pair's operations end in the body
+  turned-within : Within (loopOf f) (turnedBy f z) 1
+  unfolding turnedBy rotatedStarts rotatedLength pairOf reach
+  turned-within =
+      bodied-within (loopOf f) (turnedBy f z) (sound-form f w)
+      (turned-bodied (loopOf f) (pairOf f) z (startsOf f) (sound-form f w) (plain-form f) legal (tabled f n) (staffed-form f w) one below (w .length) (turnedBy f z) (λ v l. refl) refl refl)
 
   ends-at : (v : ℕ) → v < f .nodes → startOf (rotated f z) v + latencyOf (rotated f z) v ≤ rotatedLength f z + 1
   unfolding rotated withPair rotatedLength loopOf graphOf
@@ -69,7 +76,7 @@ module _ (f : Form) (w : WellFormed f) (legal : Legal (loopOf f) (pairOf f)) (z 
   -- its length is not 0
   pub rotated-form-some : 1 ≤ rotated f z .length
   unfolding rotated withPair rotatedLength rotatedStarts pairOf
-  rotated-form-some = turned-length (loopOf f) (pairOf f) z (startsOf f) (sound-form f w) legal (tabled f n) (staffed-form f w) one below (w .length) .0
+  rotated-form-some = turned-length (loopOf f) (pairOf f) z (startsOf f) (sound-form f w) (plain-form f) legal (tabled f n) (staffed-form f w) one below (w .length) .0
 
   -- its pair is legal, unless it has more than 512 steps
   pub rotated-form-legal : rotatedLength f z ≤ 512 → Legal (loopOf (rotated f z)) (pairOf (rotated f z))
@@ -77,11 +84,11 @@ module _ (f : Form) (w : WellFormed f) (legal : Legal (loopOf f) (pairOf f)) (z 
   rotated-form-legal short =
       let g : Loop = loopOf f in
       let q : Pair = turnedBy f z in
-      let same : pairOf (rotated f z) ≡ retimedPair g q = λ i. record { start = λ v. step-at (rotatedStarts f z) v i; length = rotatedLength f z; retiming = λ v. getD (retimings g q) v 0 } in
+      let same : pairOf (rotated f z) ≡ retimedPair g q = λ i. record { kind = plain; start = λ v. step-at (rotatedStarts f z) v i; length = rotatedLength f z; retiming = λ v. getD (retimings g q) v 0 } in
       subst (Legal g) (sym same)
       (retimings-legal g q (sound-form f w) settles (rotated-form-some, short)
-      (turned-bodied g (pairOf f) z (startsOf f) (sound-form f w) legal (tabled f n) (staffed-form f w) one below (w .length) q (λ v l. refl) refl)
-      (turned-unit-rule g (pairOf f) z (startsOf f) (sound-form f w) legal (tabled f n) (staffed-form f w) one below (w .length) q (λ v l. refl) refl))
+      (turned-bodied g (pairOf f) z (startsOf f) (sound-form f w) (plain-form f) legal (tabled f n) (staffed-form f w) one below (w .length) q (λ v l. refl) refl refl)
+      (turned-unit-rule g (pairOf f) z (startsOf f) (sound-form f w) (plain-form f) legal (tabled f n) (staffed-form f w) one below (w .length) q (λ v l. refl) refl refl))
 
   module _ (fits : tooLong f z ≡ false) where
     pub rotated-form-short : rotatedLength f z ≤ 512
@@ -103,7 +110,7 @@ module _ (f : Form) (w : WellFormed f) (legal : Legal (loopOf f) (pairOf f)) (z 
         starts = λ v l. record {
           begins = omega (arith, step-at (rotatedStarts f z) v, placed v l);
           ends = ends-at v l;
-          retiming = retimings-small (loopOf f) (turnedBy f z) (sound-form f w) settles v;
+          retiming = retimings-small (loopOf f) (turnedBy f z) (sound-form f w) settles 1 turned-within v;
         };
         least = retimings-zero (loopOf f) (turnedBy f z) (sound-form f w) settles;
       };
@@ -132,7 +139,7 @@ module _ (f : Form) (w : WellFormed f) (legal : Legal (loopOf f) (pairOf f)) (z 
 
     table-long : length (rotatedStarts f z) ≡ 64
     unfolding rotatedStarts
-    table-long = turned-long (loopOf f) (pairOf f) z (startsOf f) (sound-form f w) legal (tabled f n)
+    table-long = turned-long (loopOf f) (pairOf f) z (startsOf f) (sound-form f w) (plain-form f) legal (tabled f n)
 
     -- it can be held where the form can
     pub rotated-held : Held f → Held (rotated f z)
@@ -155,7 +162,7 @@ module _ (f : Form) (w : WellFormed f) (legal : Legal (loopOf f) (pairOf f)) (z 
       node = h .node;
       edge = h .edge;
       start = λ v l. omega (arith, step-at (rotatedStarts f z) v, small-start h v l);
-      retiming = λ v l. omega (arith, retimings-small (loopOf f) (turnedBy f z) (sound-form f w) settles v);
+      retiming = λ v l. omega (arith, retimings-small (loopOf f) (turnedBy f z) (sound-form f w) settles 1 turned-within v);
     }
 
     -- writing it refuses nothing, or Room
