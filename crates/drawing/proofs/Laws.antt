@@ -20,11 +20,11 @@ use Rattle.form.specs.declared.Form.{Form}
 use Rattle.form.specs.declared.Class.{Class}
 use Rattle.form.specs.Places.{classOf, nodeOf, startOf, retimingOf}
 use Rattle.lists.specs.Span.{span}
-use Rattle.lists.specs.Fold.{count}
-use Rattle.lists.specs.Count.{count-same}
+use Rattle.lists.specs.Fold.{sumOf}
+use Rattle.lists.specs.Sums.{sum-same}
 use Rattle.legal.specs.Loop.{hold, graphOf, loopOf, pairOf}
-use Rattle.legal.specs.Legal.{occupies, busy}
-use Rattle.rules.specs.Busy.{occupiesAt, busyIn}
+use Rattle.legal.specs.Legal.{busy}
+use Rattle.rules.specs.Busy.{heldOn, busyIn}
 use Rattle.drawing.specs.Noted.{Noted}
 use Rattle.drawing.specs.Words.{classWord, latencyWord, unitsWord, plainWord, pipelinedWord, barWord, freeWord}
 use Rattle.drawing.specs.Table.{blanks, right, classLine, headText, startPlace, heldPlace, placesText}
@@ -125,7 +125,7 @@ unfolding rows
 rows-same r s zero h = refl
 rows-same r s (suc n) h = rw (rows-same r s n (λ v l. h v (omega arith)), h n (omega arith))
 
-module _ (f : Form) (nodes : ℕ) (kind start retiming : List ℕ) (t : Noted f nodes kind start retiming) (q c : ℕ) where
+module _ (f : Form) (steps nodes : ℕ) (kind start retiming : List ℕ) (t : Noted f steps nodes kind start retiming) (q c : ℕ) where
   starts-same : rows (λ v. startPlace q c v (getD kind v 0) (getD start v 0) (getD retiming v 0)) nodes ≡ rows (λ v. startPlace q c v (nodeOf f v .class) (startOf f v) (retimingOf f v)) (f .nodes)
   starts-same =
       rows-same _ (λ v. startPlace q c v (nodeOf f v .class) (startOf f v) (retimingOf f v)) nodes
@@ -137,15 +137,15 @@ module _ (f : Form) (nodes : ℕ) (kind start retiming : List ℕ) (t : Noted f 
       rows-same _ (λ v. heldPlace q c h v (nodeOf f v .class) (startOf f v)) nodes (λ v l. rw (← (t .runs-on v l), ← (t .starts v l)))
       ∙ ap (rows (λ v. heldPlace q c h v (nodeOf f v .class) (startOf f v))) (sym (t .all-nodes))
 
-  busy-same : busyIn kind start c (hold (classOf f c)) q nodes ≡ busy (loopOf f) (pairOf f) c q
-  unfolding busyIn occupiesAt busy occupies loopOf pairOf graphOf
+  busy-same : busyIn steps kind start c (hold (classOf f c)) q nodes ≡ busy (loopOf f) (pairOf f) c q
+  unfolding busyIn heldOn busy loopOf pairOf graphOf
   busy-same =
-      count-same _ (λ v. eqb (nodeOf f v .class) c && (leb (startOf f v) q && ltb q (startOf f v + hold (classOf f c)))) nodes
-      (λ v l. rw (← (t .runs-on v l), ← (t .starts v l)))
-      ∙ ap (λ (n : ℕ). count (λ v. eqb (nodeOf f v .class) c && (leb (startOf f v) q && ltb q (startOf f v + hold (classOf f c)))) (span 0 n)) (sym (t .all-nodes))
+      sum-same (λ v. heldOn steps (getD kind v 0) (getD start v 0) c (hold (classOf f c)) q) (λ v. heldOn (f .length) (nodeOf f v .class) (startOf f v) c (hold (classOf f c)) q) 0 nodes
+      (λ v a l. rw (t .is-length, ← (t .runs-on v (omega arith)), ← (t .starts v (omega arith))))
+      ∙ ap (λ (n : ℕ). sumOf (λ v. heldOn (f .length) (nodeOf f v .class) (startOf f v) c (hold (classOf f c)) q) (span 0 n)) (sym (t .all-nodes))
 
   -- the bar, the nodes that start, those that hold, the free units
-  pub places-put : (k : Class) (held taken free : ℕ) → k ≡ classOf f c → held ≡ hold k → taken ≡ busyIn kind start c held q nodes → free ≡ k .units - taken
+  pub places-put : (k : Class) (held taken free : ℕ) → k ≡ classOf f c → held ≡ hold k → taken ≡ busyIn steps kind start c held q nodes → free ≡ k .units - taken
       → (l : List ℕ) (at : ℕ) (m o p r : List ℕ) (e g h n : ℕ) → Laid l at barWord m e
       → Laid m e (rows (λ v. startPlace q c v (getD kind v 0) (getD start v 0) (getD retiming v 0)) nodes) o g
       → Laid o g (rows (λ v. heldPlace q c held v (getD kind v 0) (getD start v 0)) nodes) p h
@@ -153,7 +153,7 @@ module _ (f : Form) (nodes : ℕ) (kind start retiming : List ℕ) (t : Noted f 
   unfolding placesText
   places-put k held taken free is-k is-held is-taken is-free l at m o p r e g h n x y z w =
       let has : held ≡ hold (classOf f c) = is-held ∙ ap hold is-k in
-      let busy-is : taken ≡ busy (loopOf f) (pairOf f) c q = is-taken ∙ ap (λ (b : ℕ). busyIn kind start c b q nodes) has ∙ busy-same in
+      let busy-is : taken ≡ busy (loopOf f) (pairOf f) c q = is-taken ∙ ap (λ (b : ℕ). busyIn steps kind start c b q nodes) has ∙ busy-same in
       let free-is : free ≡ classOf f c .units - busy (loopOf f) (pairOf f) c q = is-free ∙ rw (is-k, busy-is) in
       both l at barWord _ m r e n x
       (both m e _ _ o r g n (rw starts-same at y) (both o g _ _ p r h n (rw (held-same (hold (classOf f c))) at (rw has at z)) (rw free-is at w)))

@@ -1,6 +1,7 @@
 -- The rows and the table of a timetable, and the drawing of a record: measured in no room, then put where it fits.
 -- Assumes nothing.
-use mathlib.Core.Path.{_≡_, refl, sym, ap, _∙_}
+use mathlib.Core.Path.{_≡_, refl, sym, ap, subst, _∙_}
+use mathlib.Core.Logic.{_≢_}
 use mathlib.Core.List.{List, [], _∷_, _++_}
 use mathlib.Core.Bool.{true, false}
 use Prim.Native.Nat.{ℕ, _+_, _≤_, _<_}
@@ -23,7 +24,10 @@ use Rattle.writer.specs.Laid.{Laid}
 use Rattle.writer.proofs.Laws.{both, same-long}
 use Rattle.text.specs.Decimal.{decimal, newline}
 use Rattle.tables.specs.declared.Timetable.{Timetable}
-use Rattle.tables.specs.Times.{timesOf}
+use Rattle.tables.specs.Times.{timesOf, Timed, timed-form}
+use Rattle.legal.specs.Loop.{loopOf, pairOf}
+use Rattle.rules.specs.Busy.{StartsIn, seated-form}
+use Rattle.rules.specs.Lowest.{starts-in}
 use Rattle.drawing.specs.Words.{stepWord}
 use Rattle.drawing.specs.Table.{right, classLine, headText, placesText, rowText, headsLine, tableText, drawingOf, drawn, drawnBuffer}
 use Rattle.drawing.specs.Noted.{Noted, Narrow, Tabled}
@@ -50,11 +54,18 @@ pub tabled-narrow : (t : Timetable) → Tabled t → Narrow (t .classes) (t .cla
 unfolding timesOf
 tabled-narrow t h = rw (h .is) (record { few = h .good .classes .1; units = λ c l. h .good .class c l .units .1 })
 
+pub tabled-starts : (t : Timetable) → Tabled t → t .length ≢ 0 → StartsIn (t .length) (t .start) (t .nodes)
+unfolding timesOf
+tabled-starts t h n =
+    let f : Form = h .form in
+    starts-in (loopOf f) (pairOf f) t (subst (Timed (loopOf f) (pairOf f)) (sym (h .is)) (timed-form f)) (seated-form f (h .good) (λ e. n (ap (λ (x : Timetable). x .length) (h .is) ∙ e)))
+
 -- and what it holds
 module _ (f : Form) (t : Timetable) (is : t ≡ timesOf f) where
-  pub times-noted : Noted f (t .nodes) (t .kind) (t .start) (t .retiming)
+  pub times-noted : Noted f (t .length) (t .nodes) (t .kind) (t .start) (t .retiming)
   unfolding timesOf
   times-noted = rw is (record {
+    is-length = refl;
     all-nodes = refl;
     runs-on = λ v l. sym (filled-at 64 (λ u. nodeOf f u .class) (f .nodes) v l);
     starts = λ v l. sym (filled-at 64 (startOf f) (f .nodes) v l);

@@ -1,7 +1,8 @@
 -- What the judge accepts is drawn in at most 106,347 bytes: a place of six for each unit, whatever stands in it.
 -- Assumes nothing.
-use mathlib.Core.Path.{_≡_, refl}
+use mathlib.Core.Path.{_≡_, refl, _∙_}
 use mathlib.Core.Bool.{Bool, true, false, _&&_}
+use mathlib.Core.Logic.{_≢_}
 use mathlib.Core.List.{List, [], _∷_, _++_}
 use Prim.Native.Nat.{ℕ, zero, suc, _+_, _*_, _-_, _≤_, _<_}
 use native.Mathlib.Omega.{arith}
@@ -28,7 +29,9 @@ use Rattle.form.specs.Ranges.{GoodClass, WellFormed}
 use Rattle.writer.specs.Layout.{rows}
 use Rattle.text.specs.Decimal.{decimal, newline}
 use Rattle.legal.specs.Loop.{hold, graphOf, loopOf, pairOf}
-use Rattle.legal.specs.Legal.{occupies, busy, UnitRule}
+use Rattle.legal.specs.Legal.{busy, UnitRule}
+use Rattle.legal.specs.Busy.{hold-some, spans, busy-plain}
+use Rattle.legal.specs.Shape.{sound-form, placed-form, plain-form}
 use Rattle.listing.specs.Lines.{retimingText}
 use Rattle.drawing.specs.Words.{
   classWord,
@@ -132,10 +135,6 @@ occupies-split true q s h l = go (decLt s q) (ℕ-discrete s q)
     go (no a) (yes e) = rw (eq-eqb s q e, le-ltb s q (omega arith), le-leb s q (omega arith), lt-ltb q (s + h) (omega arith)) refl
     go (no a) (no e) = rw (ne-eqb s q e, le-ltb s q (omega arith), lt-leb s q (omega arith)) refl
 
-hold-some : (k : Class) → GoodClass k → 1 ≤ hold k
-unfolding hold
-hold-some k g = pick-ind (λ (n : ℕ). 1 ≤ n) (eqb (k .pipelined) 0) _ _ (λ e. g .latency .0) (λ e. omega arith)
-
 module _ (f : Form) (w : WellFormed f) (rule : UnitRule (loopOf f) (pairOf f)) where
   module _ (q : ℕ) (from : 1 ≤ q) (to : q ≤ f .length) where
     retimed : (v : ℕ) → v < f .nodes → retimingOf f v < 100
@@ -158,10 +157,12 @@ module _ (f : Form) (w : WellFormed f) (rule : UnitRule (loopOf f) (pairOf f)) w
 
       -- the nodes drawn are those that occupy a unit
       drawn-busy : count startsHere (span 0 (f .nodes)) + count holdsHere (span 0 (f .nodes)) ≡ busy (loopOf f) (pairOf f) c q
-      unfolding startsHere holdsHere busy occupies loopOf pairOf graphOf
+      unfolding startsHere holdsHere spans loopOf pairOf graphOf
       drawn-busy =
-          count-split startsHere holdsHere _ (f .nodes)
-          (λ v l. occupies-split (eqb (nodeOf f v .class) c) q (startOf f v) (hold (classOf f c)) (hold-some (classOf f c) (w .class c inside)))
+          let some : f .length ≢ 0 = λ e. omega arith in
+          count-split startsHere holdsHere (spans (loopOf f) (pairOf f) c q) (f .nodes)
+          (λ v l. occupies-split (eqb (nodeOf f v .class) c) q (startOf f v) (hold (classOf f c)) (hold-some (classOf f c) (w .class c inside .latency .0)))
+          ∙ busy-plain (loopOf f) (pairOf f) (sound-form f w) (plain-form f) (placed-form f w some .body) c q
 
       room : busy (loopOf f) (pairOf f) c q ≤ classOf f c .units
       unfolding loopOf pairOf

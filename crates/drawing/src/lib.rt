@@ -16,6 +16,7 @@ ghost use Rattle.listing.specs.Lines.{retimingText};
 ghost use Rattle.tables.specs.Times.{timesOf};
 ghost use Rattle.drawing.specs.Words.{freeWord};
 ghost use Rattle.drawing.specs.Table.{blanks, right, classLine, headText, startPlace, heldPlace, placesText, rowText, tableText, drawn, drawnBuffer};
+ghost use Rattle.rules.specs.Busy.{StartsIn};
 ghost use Rattle.drawing.specs.Noted.{Noted, Narrow, Tabled};
 use form::Class;
 use listing::put_retiming;
@@ -215,13 +216,13 @@ fn put_holding<'a>(
 }
 
 // How many units are free.
-fn free_of(units: u8, busy: u8) -> u8
+fn free_of(units: u8, busy: u16) -> u8
     ensures { λ r. ⌜ r ≡ units - busy ⌝ }
 {
-    if units < busy {
+    if (units as u16) < busy {
         return 0;
     }
-    units - busy
+    (units as u16 - busy) as u8
 }
 
 // The places of the units that are free.
@@ -245,16 +246,17 @@ fn put_places<'a>(
     step: u16,
     number: u8,
     class: Class,
+    length: u16,
     nodes: u8,
     kind: &'a [u8; 64],
     start: &'a [u16; 64],
     retiming: &'a [u8; 64],
 ) -> usize
-    requires { ⌜ (at ≤ 1760000) × (nodes ≤ 64) × (class .units ≤ 8) ⌝ }
-    ensures { λ r. ⌜ (r ≤ at + 818) × ((f : Form) → Noted f nodes (now (kind .entry)) (now (start .entry)) (now (retiming .entry)) → class ≡ classOf f number → Laid (now (out .entry)) at (placesText f step number) (now (out .exit)) r) ⌝ }
+    requires { ⌜ (at ≤ 1760000) × (nodes ≤ 64) × (1 ≤ step) × (step ≤ length) × StartsIn length (now start) nodes × (class .units ≤ 8) ⌝ }
+    ensures { λ r. ⌜ (r ≤ at + 818) × ((f : Form) → Noted f length nodes (now (kind .entry)) (now (start .entry)) (now (retiming .entry)) → class ≡ classOf f number → Laid (now (out .entry)) at (placesText f step number) (now (out .exit)) r) ⌝ }
 {
     let hold = hold_of(class);
-    let busy = busy_in(nodes, kind, start, number, hold, step);
+    let busy = busy_in(length, nodes, kind, start, number, hold, step);
     let first = put_word(out, at, b" |");
     let held = put_starting(out, first, step, number, nodes, kind, start, retiming);
     let free = put_holding(out, held, step, number, hold, nodes, kind, start);
@@ -268,19 +270,22 @@ fn put_columns<'a>(
     step: u16,
     classes: u8,
     class: [Class; 4],
+    length: u16,
     nodes: u8,
     kind: &'a [u8; 64],
     start: &'a [u16; 64],
     retiming: &'a [u8; 64],
 ) -> usize
-    requires { ⌜ (at ≤ 1750000) × (nodes ≤ 64) × Narrow classes class ⌝ }
-    ensures { λ r. ⌜ (r ≤ at + 3272) × ((f : Form) → Noted f nodes (now (kind .entry)) (now (start .entry)) (now (retiming .entry)) → class ≡ f .class → Laid (now (out .entry)) at (rows (placesText f step) classes) (now (out .exit)) r) ⌝ }
+    requires { ⌜ (at ≤ 1750000) × (nodes ≤ 64) × (1 ≤ step) × (step ≤ length) × StartsIn length (now start) nodes × Narrow classes class ⌝ }
+    ensures { λ r. ⌜ (r ≤ at + 3272) × ((f : Form) → Noted f length nodes (now (kind .entry)) (now (start .entry)) (now (retiming .entry)) → class ≡ f .class → Laid (now (out .entry)) at (rows (placesText f step) classes) (now (out .exit)) r) ⌝ }
 {
     let mut next = at;
     let mut c: u8 = 0;
     while c < classes {
         let row = class[c as usize];
-        next = put_places(out, next, step, c, row, nodes, kind, start, retiming);
+        next = put_places(
+            out, next, step, c, row, length, nodes, kind, start, retiming,
+        );
         c += 1;
     }
     next
@@ -293,13 +298,14 @@ fn put_row<'a>(
     step: u16,
     classes: u8,
     class: [Class; 4],
+    length: u16,
     nodes: u8,
     kind: &'a [u8; 64],
     start: &'a [u16; 64],
     retiming: &'a [u8; 64],
 ) -> usize
-    requires { ⌜ (at ≤ 1740000) × (step < 1000) × (nodes ≤ 64) × Narrow classes class ⌝ }
-    ensures { λ r. ⌜ (r ≤ at + 3279) × ((f : Form) → Noted f nodes (now (kind .entry)) (now (start .entry)) (now (retiming .entry)) → class ≡ f .class → classes ≡ f .classes → Laid (now (out .entry)) at (rowText f step) (now (out .exit)) r) ⌝ }
+    requires { ⌜ (at ≤ 1740000) × (step < 1000) × (nodes ≤ 64) × (1 ≤ step) × (step ≤ length) × StartsIn length (now start) nodes × Narrow classes class ⌝ }
+    ensures { λ r. ⌜ (r ≤ at + 3279) × ((f : Form) → Noted f length nodes (now (kind .entry)) (now (start .entry)) (now (retiming .entry)) → class ≡ f .class → classes ≡ f .classes → Laid (now (out .entry)) at (rowText f step) (now (out .exit)) r) ⌝ }
 {
     let first = put_right(out, at, step as u32);
     let end = put_columns(
@@ -308,6 +314,7 @@ fn put_row<'a>(
         step,
         classes,
         class,
+        length,
         nodes,
         kind,
         start,
@@ -332,6 +339,7 @@ fn put_rows(out: &mut [u8], at: usize, times: Timetable) -> usize
             i + 1,
             times.classes,
             class,
+            length,
             times.nodes,
             &times.kind,
             &times.start,

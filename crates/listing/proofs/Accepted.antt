@@ -17,7 +17,7 @@ use Rattle.reader.specs.declared.Record.{Record}
 use Rattle.reader.specs.Reading.{readForm}
 use Rattle.record.specs.Read.{read-well-formed}
 use Rattle.legal.specs.Loop.{loopOf, pairOf}
-use Rattle.legal.specs.Shape.{sound-form}
+use Rattle.legal.specs.Shape.{sound-form, plain-form}
 use Rattle.legal.specs.Systems.{knotted}
 use Rattle.legal.specs.Knots.{free-unknotted}
 use Rattle.legal.specs.Paced.{legal-free}
@@ -93,7 +93,7 @@ form-shown s b r t accepts =
       nodes = w .nodes .1;
       edges = w .edges;
       length = w .length;
-      near = omega (arith, floor-is s r t (a .0) free, floor-bound (loopOf f) (pairOf f) (sound-form f w) legal);
+      near = omega (arith, floor-is s r t (a .0) free, floor-bound (loopOf f) (pairOf f) (sound-form f w) legal (plain-form f));
       is = floor-is s r t (a .0) free;
     }
 

@@ -18,10 +18,10 @@ use Rattle.drawing.proofs.put_columns.Statement.{statement}
 use Rattle.drawing.proofs.put_columns.Tie as tie
 
 abbrev Inv-loop : tie.InvT-loop
-Inv-loop out₀ at step classes nodes kind start retiming class next₀ c₀ out next c = (c ≤ classes) × (next ≤ at + 818 * c) × (length out ≡ length out₀) × ((f : Form) → Noted f nodes kind start retiming → class ≡ f .class → Laid out₀ at (rows (placesText f step) c) out next)
+Inv-loop out₀ at step classes long nodes kind start retiming class next₀ c₀ out next c = (c ≤ classes) × (next ≤ at + 818 * c) × (length out ≡ length out₀) × ((f : Form) → Noted f long nodes kind start retiming → class ≡ f .class → Laid out₀ at (rows (placesText f step) c) out next)
 
 abbrev μ-loop : tie.MeasureT-loop
-μ-loop out₀ at step classes nodes kind start retiming class next₀ c₀ out next c = classes - c
+μ-loop out₀ at step classes long nodes kind start retiming class next₀ c₀ out next c = classes - c
 
 loop-holds : tie.Need-loop-holds Inv-loop μ-loop
 unfolding rows
@@ -37,7 +37,7 @@ array-copy-out-row : tie.Need-array-copy-out-row Inv-loop μ-loop
 array-copy-out-row c = search tests
 
 put-places-requires : tie.Need-put-places-requires Inv-loop μ-loop
-put-places-requires c κs = (search tests, search tests, (c .before .before .before .before .before .pre .2 .units) _ (omega arith))
+put-places-requires c κs = let p = c .before .before .before .before .before .pre in (search tests, search tests, p .2, p .3, p .4, p .5 .units _ (omega arith))
 
 add-c : tie.Need-add-c Inv-loop μ-loop
 add-c c = search tests

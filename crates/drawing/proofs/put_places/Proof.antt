@@ -35,7 +35,7 @@ same-length c = search tests
 
 returns : tie.Need-returns
 unfolding barWord
-returns c = (search tests, λ f t k. places-put f _ _ _ _ t _ _ _ _ _ _ k (c .before .before .before .before .before .before .before .before .before .before .before .before .before .before .before .before .before .before .before .hold-of .ensures) (c .before .before .before .before .before .before .before .before .before .before .before .before .before .before .before .before .before .before .busy-in .ensures) (omega (arith, c .before .before .before .free-of .ensures)) _ _ _ _ _ _ _ _ _ _ (c .before .before .before .before .before .before .before .before .before .before .before .before .before .before .before .put-word .ensures) (c .before .before .before .before .before .before .before .before .before .before .before .put-starting .ensures .1) (c .before .before .before .before .before .before .before .put-holding .ensures .1) (c .before .before .put-free .ensures .1))
+returns c = (search tests, λ f t k. places-put f _ _ _ _ _ t _ _ _ _ _ _ k (c .before .before .before .before .before .before .before .before .before .before .before .before .before .before .before .before .before .before .before .hold-of .ensures) (c .before .before .before .before .before .before .before .before .before .before .before .before .before .before .before .before .before .before .busy-in .ensures) (omega (arith, c .before .before .before .free-of .ensures)) _ _ _ _ _ _ _ _ _ _ (c .before .before .before .before .before .before .before .before .before .before .before .before .before .before .before .put-word .ensures) (c .before .before .before .before .before .before .before .before .before .before .before .put-starting .ensures .1) (c .before .before .before .before .before .before .before .put-holding .ensures .1) (c .before .before .put-free .ensures .1))
 
 pub put-places-spec : {M : Type 1} → statement M
 put-places-spec =

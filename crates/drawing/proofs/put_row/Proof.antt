@@ -9,7 +9,7 @@ put-right-requires : tie.Need-put-right-requires
 put-right-requires c κs = search tests
 
 put-columns-requires : tie.Need-put-columns-requires
-put-columns-requires c κs = (search tests, search tests, (c .before .before .before .before .before .before .pre .3))
+put-columns-requires c κs = let p = c .before .before .before .before .before .before .pre in (search tests, search tests, p .3, p .4, p .5, p .6)
 
 put-byte-requires : tie.Need-put-byte-requires
 put-byte-requires c κs = search tests

@@ -1,7 +1,7 @@
 -- `drawing::put_rows` meets its contract: the loop's invariant is that the first rows are laid.
 -- Assumes nothing.
 use mathlib.Core.Path.{_≡_}
-use Prim.Native.Nat.{_≤_, _+_, _-_, _*_}
+use Prim.Native.Nat.{_≤_, _<_, _+_, _-_, _*_}
 use native.Mathlib.Omega.{arith}
 use Rattle.writer.specs.Laid.{Laid}
 use Rattle.writer.specs.Layout.{rows}
@@ -11,7 +11,7 @@ use lib.ListN.{length}
 use Rattle.form.specs.declared.Form.{Form}
 use Rattle.tables.specs.Times.{timesOf}
 use Rattle.drawing.specs.Table.{rowText}
-use Rattle.drawing.proofs.Whole.{tabled-nodes, tabled-length, tabled-narrow, times-noted, times-class, times-classes, times-length}
+use Rattle.drawing.proofs.Whole.{tabled-nodes, tabled-length, tabled-narrow, tabled-starts, times-noted, times-class, times-classes, times-length}
 use Rattle.drawing.proofs.Laws.{tests}
 use Rattle.drawing.proofs.put_rows.Statement.{statement}
 use Rattle.drawing.proofs.put_rows.Tie as tie
@@ -30,7 +30,18 @@ add-put-row : tie.Need-add-put-row Inv-loop μ-loop
 add-put-row c = search tests
 
 put-row-requires : tie.Need-put-row-requires Inv-loop μ-loop
-put-row-requires c κs = (omega (arith, (c .before .before .before .before .before .before .loop .inv .1), tabled-length _ (c .before .before .before .before .before .before .before .before .before .pre .1)), omega (arith, tabled-length _ (c .before .before .before .before .before .before .before .before .before .pre .1)), tabled-nodes _ (c .before .before .before .before .before .before .before .before .before .pre .1), tabled-narrow _ (c .before .before .before .before .before .before .before .before .before .pre .1))
+put-row-requires c κs =
+    let l = c .before .before .before .before .before .before in
+    let p = l .before .before .before .pre .1 in
+    (
+      omega (arith, l .loop .inv .1, tabled-length _ p),
+      omega (arith, tabled-length _ p),
+      tabled-nodes _ p,
+      omega arith,
+      omega arith,
+      tabled-starts _ p (λ e. omega arith),
+      tabled-narrow _ p,
+    )
 
 add-i : tie.Need-add-i Inv-loop μ-loop
 add-i c = search tests
