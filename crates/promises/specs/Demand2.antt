@@ -22,7 +22,7 @@ use Rattle.record.specs.Written as writing
 use Rattle.record.specs.RoundTrip as trip
 use mathlib.Core.Logic.{_≢_}
 use Rattle.answer.specs.declared.Refusal.the-variants as refusal
-use Rattle.legal.specs.Loop.{loopOf, pairOf}
+use Rattle.legal.specs.Loop.{plain, loopOf, pairOf}
 use Rattle.legal.specs.Legal.{Legal, Knot}
 use Rattle.legal.specs.Knots.{Free}
 use Rattle.legal.specs.Limits.{EdgeRules}
@@ -61,7 +61,7 @@ use Rattle.system.specs.System.{System, Solves, LosingWalk}
 use Rattle.system.specs.Rounds.{settledOf}
 use Rattle.system.specs.Laws as settling
 use Rattle.system.specs.Walks.{sound}
-use Rattle.legal.specs.Shape.{Bodied}
+use Rattle.legal.specs.Shape.{Bodied, Within as EndsWithin, bodied-within}
 use Rattle.legal.specs.Knots.{knot-impossible}
 use Rattle.legal.specs.Fitted.{depth, Settles, depth-bound}
 use Rattle.legal.specs.Paced.{latencies}
@@ -170,11 +170,11 @@ cycle-unfit = impossible-unfit
 
 -- every knot is such a cycle, whatever the starts
 pub knot-unfit : (g : Loop) (p : Pair) → Sound g → Bodied g p → (es : List ℕ) → Knot g es → Impossible g p es
-knot-unfit g p = knot-impossible g p
+knot-unfit g p s b = knot-impossible g p s _ (bodied-within g p s b)
 
--- the depth of a retiming that is given never exceeds 63
-pub fitted-shallow : (g : Loop) (p : Pair) → Sound g → Settles g p → depth g p ≤ 63
-fitted-shallow = depth-bound
+-- the depth of a retiming that is given never exceeds 63, where the operations end in the body
+pub fitted-shallow : (g : Loop) (p : Pair) → Sound g → Settles g p → EndsWithin g p 1 → depth g p ≤ 63
+fitted-shallow g p s q b = depth-bound g p s q 1 b
 
 -- ---- the system behind knots, fits and the floor
 
@@ -195,11 +195,11 @@ solved-sound = sound
 -- ---- the floor
 
 -- each part by itself is a bound
-pub latency-below : (g : Loop) (p : Pair) → Sound g → Legal g p → latencyPart g ≤ p .length
+pub latency-below : (g : Loop) (p : Pair) → Sound g → Legal g p → p .kind ≡ plain → latencyPart g ≤ p .length
 latency-below = latency-bound
 
 pub units-below : (g : Loop) (p : Pair) (c : ℕ) → Sound g → Legal g p → c < g .classes → unitsPart g c ≤ p .length
-units-below = units-bound
+units-below g p c s = units-bound g p c
 
 pub cycle-below : (g : Loop) (p : Pair) → Sound g → Legal g p → cyclePart g ≤ p .length
 cycle-below = cycle-bound
@@ -214,8 +214,8 @@ cycle-minimal = cycle-least
 pub cycle-none : (g : Loop) → Sound g → ((es : List ℕ) → Cycle (g .graph) es → ⊥) → cyclePart g ≡ 1
 cycle-none = acyclic-one
 
--- no legal pair is shorter
-pub floor-below : (g : Loop) (p : Pair) → Sound g → Legal g p → floorLength g ≤ p .length
+-- no legal plain pair is shorter
+pub floor-below : (g : Loop) (p : Pair) → Sound g → Legal g p → p .kind ≡ plain → floorLength g ≤ p .length
 floor-below = floor-bound
 
 -- the part that is named attains it, and no part before it does

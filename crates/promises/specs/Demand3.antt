@@ -18,7 +18,7 @@ use Rattle.field.specs.Number.{Bytes}
 use Rattle.reader.specs.Reading.{readForm}
 use Rattle.record.specs.Read as reading
 use Rattle.legal.specs.Loop.{Loop, Pair, loopOf, graphOf, pairOf}
-use Rattle.legal.specs.Shape.{Sound, Placed, sound-form}
+use Rattle.legal.specs.Shape.{Sound, Starting, sound-form}
 use Rattle.legal.specs.Knots.{Free}
 use Rattle.legal.specs.Paced.{legal-free}
 use Rattle.legal.specs.Judging.{judgeOf}
@@ -137,7 +137,7 @@ module _ (s : List ℕ) (bytes : Bytes s) (k : ℕ) (starts values₀ finish₀ 
 -- ---- how a run ends
 
 -- with every node of every iteration issued in its run step, or stopped with the earlier issues alone; places past the run stay
-module _ (g : Loop) (p : Pair) (s : Sound g) (b : Placed g p) (starts : List ℕ) (k : ℕ) (values finish : List ℕ)
+module _ (g : Loop) (p : Pair) (s : Sound g) (b : Starting g p) (starts : List ℕ) (k : ℕ) (values finish : List ℕ)
     (room : k * g .graph .nodes ≤ length values) (room′ : k * g .graph .nodes ≤ length finish) where
   pub run-ends : Ends g p starts k (blank g k values finish) (suc (runSteps g p starts k) * g .graph .nodes) (runOf g p starts k values finish)
   run-ends = ended g p s b starts k values finish room room′

@@ -7,7 +7,7 @@ use lib.ListN.{replicate, set}
 use Rattle.lists.specs.Pick.{pick}
 use Rattle.lists.specs.Span.{span}
 use Rattle.lists.specs.Filled.{filled}
-use Rattle.lists.specs.Fold.{count, fold, top}
+use Rattle.lists.specs.Fold.{sumOf, count, fold, top}
 use Rattle.lists.specs.First.{firstFrom}
 use Rattle.answer.specs.Refused.{numberOf, detailsOf, fine}
 use Rattle.answer.specs.declared.Refusal.{Refusal}
@@ -16,7 +16,8 @@ use Rattle.form.specs.Places.{emptyForm}
 use Rattle.system.specs.Rounds.{asks, raise, raiseAll, raises, everyEdge, round, settleFrom, settledOf}
 use Rattle.system.specs.Turned.{topOf, turnedAt}
 use Rattle.legal.specs.Loop.{hold, graphOf, loopOf, pairOf}
-use Rattle.legal.specs.Legal.{occupies, busy}
+use Rattle.legal.specs.Legal.{busy}
+use Rattle.legal.specs.Held as body
 use Rattle.legal.specs.Systems.{knots, knotted, lateness, limits, paces}
 use Rattle.legal.specs.Judging.{breaks, brokenEdge, over, overClass, overStep, unitsOf, rulesOf, judgeOf}
 use Rattle.fit.specs.Retimed.{retimings, withRetiming, fittedForm}
@@ -36,7 +37,7 @@ use Rattle.rotation.specs.Scheduling.{firstAsked, turns, rotateAsked}
 use Rattle.rotation.specs.Worked.{smallForm, pairIn}
 use Rattle.search.specs.Search.{halved, stops, shorter, turn, begun, searchFrom, searched}
 use Rattle.search.specs.Searching.{searchAsked, searchForm, searchTurns}
-use Rattle.machine.specs.Values.{plus, minus, times, difference, applied, edgesInto, operand, computed}
+use Rattle.machine.specs.Values.{plus, minus, times, difference, applied, edgesInto, operandBy, computedBy}
 use Rattle.machine.specs.Run.{Machine, depth, issues, late, lateEdge, holds, held, issue, visit, stepOf, runSteps, ran, cleared, runOf}
 
 -- the small loop with a pair: starts, length and retimings of its three nodes
@@ -114,5 +115,5 @@ table =
     ∷ []
 
 pub small-loop : map (λ (c : Case). answered (c .asked)) table ≡ map (λ (c : Case). c .given) table
-unfolding small startTable told answer limitsIn answered table smallForm pairIn emptyForm pick span count fold top firstFrom fine hold graphOf loopOf pairOf occupies busy knots knotted lateness limits paces breaks brokenEdge over overClass overStep unitsOf rulesOf judgeOf asks raise raiseAll raises everyEdge round settleFrom settledOf topOf turnedAt filled retimings withRetiming fittedForm fitOf latencyPart nodesOn unitsPart unitsParts cyclePart floorLength partOf floorRefusal tight spread sweep reach reachedFrom weight insert orderOf uses inUse free blocks ready place fillStep allPlaced fillFrom listRule lengthOf firstStarts numbersOf startsOf withPair firstForm gainedBy droppedBy turnedStarts rotatedStarts rotatedLength rotated tooLong firstAsked turns rotateAsked halved stops shorter turn begun searchFrom searched searchAsked plus minus times difference applied edgesInto operand computed depth issues late lateEdge holds held issue visit stepOf runSteps ran cleared runOf
+unfolding small startTable told answer limitsIn answered table smallForm pairIn emptyForm pick span count fold top firstFrom fine hold graphOf loopOf pairOf busy body.held sumOf knots knotted lateness limits paces breaks brokenEdge over overClass overStep unitsOf rulesOf judgeOf asks raise raiseAll raises everyEdge round settleFrom settledOf topOf turnedAt filled retimings withRetiming fittedForm fitOf latencyPart nodesOn unitsPart unitsParts cyclePart floorLength partOf floorRefusal tight spread sweep reach reachedFrom weight insert orderOf uses inUse free blocks ready place fillStep allPlaced fillFrom listRule lengthOf firstStarts numbersOf startsOf withPair firstForm gainedBy droppedBy turnedStarts rotatedStarts rotatedLength rotated tooLong firstAsked turns rotateAsked halved stops shorter turn begun searchFrom searched searchAsked plus minus times difference applied edgesInto operandBy computedBy depth issues late lateEdge holds held issue visit stepOf runSteps ran cleared runOf
 small-loop = refl
