@@ -1,6 +1,7 @@
 -- `reader::end_of` meets its contract: each end of a record in turn.
 -- Assumes nothing.
 use mathlib.Core.Path.{sym, _∙_}
+use native.Mathlib.Omega.{arith}
 use borrow.Author.Tests.{not-true, not-false}
 use Rattle.reader.specs.Reading.{retimingOffset}
 use Rattle.reader.proofs.Laws.{end-refused, end-unnormalized, end-tail, end-none}
@@ -56,12 +57,12 @@ cast-t15 c = search needs
 returns-3 : tie.Need-returns-3
 returns-3 c =
     let r = c .before .before .before in
-    end-tail _ _ (sym (r .before .before .before .is-fine .ensures) ∙ not-false _ (r .before .before .if1 .left)) (sym (r .before .is-normalized .ensures) ∙ not-false _ (r .if2 .left)) (c .before .if3 .taken)
+    end-tail _ _ (sym (r .before .before .before .is-fine .ensures) ∙ not-false _ (r .before .before .if1 .left)) (sym (r .before .is-normalized .ensures) ∙ not-false _ (r .if2 .left)) (omega (arith, c .before .if3 .taken))
 
 returns-4 : tie.Need-returns-4
 returns-4 c =
     let r = c .before .before in
-    end-none _ _ (sym (r .before .before .before .is-fine .ensures) ∙ not-false _ (r .before .before .if1 .left)) (sym (r .before .is-normalized .ensures) ∙ not-false _ (r .if2 .left)) (c .if3 .left)
+    end-none _ _ (sym (r .before .before .before .is-fine .ensures) ∙ not-false _ (r .before .before .if1 .left)) (sym (r .before .is-normalized .ensures) ∙ not-false _ (r .if2 .left)) (omega (arith, c .if3 .left))
 
 pub end-of-spec : {M : Type 1} → statement M
 end-of-spec =
