@@ -76,9 +76,9 @@ loop-again c =
           let is-here : c .before .spot2 .result ≡ spotOf g p v = omega (arith, c .before .spot2 .ensures .0, timed .runs-on v l, timed .starts v l) in
           let within : v < g .graph .nodes = omega (arith, timed .all-nodes) in
           ⊎-elim
-          (λ w. lowest-here g p _ _ _ s within (crowded-yes g p times _ _ _ timed l (w .5 .ensures) (w .6 .ensures) (w .8 .taken)) (rw is-here at (w .0 .taken)) (w .9 ∙ is-here))
+          (λ w. lowest-here g p _ _ _ s within (crowded-yes g p times _ _ _ timed l (w .5 .ensures) (w .6 .ensures) (omega (arith, w .8 .taken))) (rw is-here at (w .0 .taken)) (w .9 ∙ is-here))
           (⊎-elim
-          (λ w. lowest-past g p _ _ _ s (λ e. absurd (true≢false (sym e ∙ crowded-no g p times _ _ _ timed l (w .5 .ensures) (w .6 .ensures) (w .8 .left)))) (w .9))
+          (λ w. lowest-past g p _ _ _ s (λ e. absurd (true≢false (sym e ∙ crowded-no g p times _ _ _ timed l (w .5 .ensures) (w .6 .ensures) (omega (arith, w .8 .left))))) (w .9))
           (λ w. lowest-past g p _ _ _ s (λ e. rw is-here at (w .0 .left)) (w .1)))
           (c .if1 .came),
     )
