@@ -290,11 +290,12 @@ fn free_floor<'a>(
 {
     let costs = costs_of(edges, from, &times.latency);
     let parts = parts_of(edges, from, to, delays, &costs, times);
-    let floor = larger(parts.latency, larger(parts.units, parts.cycle));
-    if parts.latency == floor {
+    let others = larger(parts.units, parts.cycle);
+    let floor = larger(parts.latency, others);
+    if others <= parts.latency {
         return alone(Refusal::None, floor, Part::Latency);
     }
-    if parts.units == floor {
+    if parts.cycle <= parts.units {
         return alone(Refusal::None, floor, Part::Units(parts.class as u32));
     }
     let short = floor - 1;

@@ -95,7 +95,7 @@ impl Form {
         let at = classes as usize;
         self.class[at] = class;
         self.classes = classes + 1;
-        self.length = 0;
+        self.length = 0; // a schedule is of the loop as it was
         Added {
             form: self,
             refusal: Refusal::None,

@@ -6,7 +6,7 @@ use mathlib.Core.Bool.{true, false}
 use mathlib.Core.List.{List}
 use mathlib.Core.Logic.{_⊎_}
 use Prim.Native.Nat.{ℕ, _≤_}
-use lib.ListN.{length, take}
+use lib.ListN.{length, getD, take}
 use Rattle.answer.specs.Refused.{fine, numberOf}
 use Rattle.answer.specs.declared.Refusal.the-variants.{None}
 use Rattle.form.specs.declared.Form.{Form}
@@ -22,7 +22,10 @@ use Rattle.record.specs.Written as writing
 use Rattle.record.specs.RoundTrip as trip
 use mathlib.Core.Logic.{_≢_}
 use Rattle.answer.specs.declared.Refusal.the-variants as refusal
-use Rattle.legal.specs.Loop.{plain, loopOf, pairOf}
+use Rattle.legal.specs.Loop.{plain, loopOf, pairOf, graphOf}
+use Rattle.legal.specs.Shape.{sound-form}
+use Rattle.reach.specs.Tables.{weightsOf, weights-at}
+use Rattle.reach.specs.Others.{Numbers, numbers-once, Leads, weight-numbers}
 use Rattle.legal.specs.Legal.{Legal, Knot}
 use Rattle.legal.specs.Knots.{Free}
 use Rattle.legal.specs.Limits.{EdgeRules}
@@ -238,6 +241,17 @@ module _ (f : Form) (w : WellFormed f) (free : knotted (loopOf f) ≡ false) whe
 
   pub first-bounded : (1 ≤ firstForm f .length) × (firstForm f .length ≤ 512)
   first-bounded = firsts.first-form-length f w free
+
+-- a node's weight is the number of other nodes to which a path of at most N edges of retimed delay 0 leads
+pub weight-is : (f : Form) → WellFormed f → (v : ℕ) → v < f .nodes
+    → Numbers (Leads (loopOf f) (retimingOf f) v) (f .nodes) (getD (weightsOf (loopOf f) (retimingOf f)) v 0)
+unfolding loopOf graphOf
+weight-is f w v l =
+    rw (weights-at (loopOf f) (retimingOf f) v l) (weight-numbers (loopOf f) (retimingOf f) (sound-form f w .joined) (sound-form f w .few) v l)
+
+-- and there is one such number
+pub weight-once : (P : ℕ → Type 0) (n w x : ℕ) → Numbers P n w → Numbers P n x → w ≡ x
+weight-once = numbers-once
 
 -- the list rule places every node, from starts that end by step 511
 pub list-rule-places : (g : Loop) (r : ℕ → ℕ) → Sound g → filling.Staffed g → filling.Ranked g r → (s : List ℕ) (m : ℕ) → filling.Within g s m → m ≤ 511

@@ -3,6 +3,7 @@
 use mathlib.Core.Path.{_≡_, refl, ap, sym, _∙_}
 use mathlib.Core.Bool.{Bool, true, false}
 use mathlib.Core.List.{List, map}
+use lib.Dec.{ltb}
 use lib.ListN.{length, getD, replicate, length-map}
 use Prim.Native.Nat.{ℕ, suc, _+_, _*_, _-_, _<_, _≤_}
 use native.Mathlib.Nat.{mul-le-mul-left, mul-suc, sub-zero}
@@ -151,24 +152,16 @@ module _ (n i : ℕ) (rs : List ℕ) (whole : Bool) where
 
 -- ---- after the last field
 
-module _ (s : List ℕ) (x : Reading) where
-  pub end-refused : fine (x .next .refusal) ≡ false → x .next .refusal ≡ endOf s x
-  unfolding endOf pick
-  end-refused f = rw f
+-- where "none is 0" refuses nothing, what is left decides
+last : (b : Bool) (o : ℕ) (t : Refusal) → pick (fine (pick b None (Retiming o))) t (pick b None (Retiming o)) ≡ pick b t (Retiming o)
+unfolding pick fine
+last true o t = refl
+last false o t = refl
 
-  module _ (f : fine (x .next .refusal) ≡ true) where
-    pub end-unnormalized : normalized (x .form .length) (x .form .nodes) (x .form .retiming) ≡ false → Retiming (retimingOffset (x .form)) ≡ endOf s x
-    unfolding endOf pick
-    end-unnormalized n = rw (f, n)
-
-    module _ (n : normalized (x .form .length) (x .form .nodes) (x .form .retiming) ≡ true) where
-      pub end-tail : x .next .at < length s → Tail (x .next .at) ≡ endOf s x
-      unfolding endOf pick
-      end-tail h = rw (f, n, lt-ltb _ _ h)
-
-      pub end-none : length s ≤ x .next .at → None ≡ endOf s x
-      unfolding endOf pick
-      end-none h = rw (f, n, le-ltb _ _ h)
+pub ended : (s : List ℕ) (x : Reading) (u t e r : Refusal) → u ≡ pick (normalized (x .form .length) (x .form .nodes) (x .form .retiming)) None (Retiming (retimingOffset (x .form)))
+    → t ≡ pick (ltb (x .next .at) (length s)) (Tail (x .next .at)) None → e ≡ pick (fine u) t u → r ≡ pick (fine (x .next .refusal)) e (x .next .refusal) → r ≡ endOf s x
+unfolding endOf
+ended s x u t e r eu et ee er = rw (er, ee, eu, last (normalized (x .form .length) (x .form .nodes) (x .form .retiming)) (retimingOffset (x .form)) t, et)
 
 -- ---- the whole record
 

@@ -1,7 +1,11 @@
 // A record's bytes into a held form: every field in layout order, at a plain cursor.
 ghost use mathlib.Core.Path.{_≡_};
 ghost use Prim.Native.Nat.{_+_, _*_, _-_, _≤_, _<_};
+ghost use lib.Dec.{ltb};
 ghost use lib.ListN.{length, getD, replicate};
+ghost use Rattle.lists.specs.Pick.{pick};
+ghost use Rattle.answer.specs.Refused.{fine};
+ghost use Rattle.answer.specs.declared.Refusal.the-variants.{None, Retiming, Tail};
 ghost use Rattle.form.specs.Places.{noClass, noNode, noStep, emptyForm, withCounts, scheduledOf};
 ghost use Rattle.reader.specs.Rows.{ClassRead, NodeRead, EdgeRead, StartRead, operationOf};
 ghost use Rattle.reader.specs.Tables.{Headed, ClassesRead, NodesRead, EdgesRead, StartsRead, withStarts};
@@ -396,23 +400,49 @@ fn is_normalized(length: u16, nodes: u8, retiming: [u8; 64]) -> bool
     some_zero(retiming, nodes)
 }
 
+// A refusal, or the next where nothing is refused.
+fn first_of(refusal: Refusal, next: Refusal) -> Refusal
+    ensures { λ r. ⌜ r ≡ pick (fine refusal) next refusal ⌝ }
+{
+    if refusal.is_fine() {
+        return next;
+    }
+    refusal
+}
+
+// A schedule has a retiming 0.
+fn none_is_zero(counts: Counts, retiming: [u8; 64]) -> Refusal
+    requires { ⌜ counts .nodes ≤ 64 ⌝ }
+    ensures { λ r. ⌜ r ≡ pick (normalized (counts .length) (counts .nodes) retiming) None (Retiming (13 + 3 * counts .classes + 6 * counts .nodes + 3 * counts .edges)) ⌝ }
+{
+    if is_normalized(counts.length, counts.nodes, retiming) {
+        return Refusal::None;
+    }
+    let before = 13 + 3 * counts.classes as u32 + 6 * counts.nodes as u32;
+    Refusal::Retiming(before + 3 * counts.edges as u32)
+}
+
+// No byte is left.
+fn tail(s: &[u8], at: usize) -> Refusal
+    requires { ⌜ at ≤ 60000 ⌝ }
+    ensures { λ r. ⌜ r ≡ pick (ltb at (length (now (s .entry)))) (Tail at) None ⌝ }
+{
+    if at < s.len() {
+        return Refusal::Tail(at as u32);
+    }
+    Refusal::None
+}
+
 // After the last field: a schedule has a retiming 0, and no byte is left.
 fn end_of(s: &[u8], counts: Counts, retiming: [u8; 64], next: Cursor) -> Refusal
     requires { ⌜ (counts .nodes ≤ 64) × (next .at ≤ 60000) ⌝ }
     ensures { λ r. ⌜ r ≡ endOf (now (s .entry)) (record { form = withStarts (withCounts emptyForm (counts .classes) (counts .nodes) (counts .edges) (counts .length)) (replicate 64 noStep) retiming; next = next }) ⌝ }
 {
     let refusal = next.refusal;
-    if !refusal.is_fine() {
-        return refusal;
-    }
-    if !is_normalized(counts.length, counts.nodes, retiming) {
-        let before = 13 + 3 * counts.classes as u32 + 6 * counts.nodes as u32;
-        return Refusal::Retiming(before + 3 * counts.edges as u32);
-    }
-    if next.at < s.len() {
-        return Refusal::Tail(next.at as u32);
-    }
-    Refusal::None
+    let unnormalized = none_is_zero(counts, retiming);
+    let left = tail(s, next.at);
+    let end = first_of(unnormalized, left);
+    first_of(refusal, end)
 }
 
 // How many nodes have a start and a retiming.

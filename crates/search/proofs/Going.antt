@@ -47,6 +47,10 @@ either : (a b : Bool) → b ≡ true → a || b ≡ true
 either true b e = refl
 either false b e = e
 
+-- a size halved and not 0 is one of a rotation
+pub turn-good : (now : Form) → Good now → (z s : ℕ) → z < 65536 → s ≡ halved 17 (now .length) z → s ≢ 0 → (WellFormed now × Legal (loopOf now) (pairOf now)) × ((1 ≤ s) × (s < now .length))
+turn-good now good z s small halves n = ((good .well-formed, good .legal), (pos-of-ne-zero n, rw halves (halved-below (now .length) (good .some) z small)))
+
 -- what the answer is
 abbrev pub Answered : Form → ℕ → ℕ → Form → ℕ → Type 0
 Answered f count size best rotations = (best ≡ searched f count size .best) × (rotations ≡ searched f count size .rotations)
@@ -88,10 +92,6 @@ module _ (first : Form) (count size : ℕ) (now best : Form) (steps rotations : 
 
     below : s < now .length
     below = rw halves (halved-below (now .length) (k .good .some) steps (k .small))
-
-    -- the steps are those of a rotation
-    pub going-good : s ≢ 0 → (WellFormed now × Legal (loopOf now) (pairOf now)) × ((1 ≤ s) × (s < now .length))
-    going-good n = ((k .good .well-formed, k .good .legal), (pos-of-ne-zero n, below))
 
     module _ (t : Form) (is : t ≡ rotatedOr now s) where
       length-is : t .length ≡ rotatedLength now s

@@ -1,4 +1,4 @@
--- A reader taken apart: what it owns gives what a callee on the slice and the place asks, and is kept. Each function that reads at the reader's place cites this.
+-- A reader taken apart: what it owns gives what a callee on the slice and the place asks, and is kept. A function that reads at the reader's place cites this.
 -- The struct is Copy: what it owns is had twice, one copy is kept whole for the exit, and of the other what src owns goes to the callee, beside the lifetime's token.
 -- Assumes nothing.
 use mathlib.Core.Path.{_≡_, refl}

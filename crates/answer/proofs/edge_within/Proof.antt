@@ -1,5 +1,6 @@
 -- `answer::edge_within` meets its contract.
 -- Assumes nothing.
+use native.Mathlib.Omega.{arith}
 use Rattle.lists.specs.Pick.{pick}
 use borrow.Author.Tests.{lt-ltb, le-ltb}
 use Rattle.answer.proofs.edge_within.Statement.{statement}
@@ -7,7 +8,7 @@ use Rattle.answer.proofs.edge_within.Tie as tie
 
 returns : tie.Need-returns
 unfolding pick
-returns c = rw (lt-ltb _ _ (c .if1 .taken))
+returns c = let a = c .before .args in rw (lt-ltb (a .place) (a .count) (omega (arith, c .if1 .taken)))
 
 returns-2 : tie.Need-returns-2
 unfolding pick

@@ -11,7 +11,7 @@ best-start-requires c κs = (tables _ _ _ _ _ _ (c .pre .0) (c .pre .1) (c .pre 
 returns : tie.Need-returns
 returns c =
     let b = c .before .before in
-    none-found _ _ _ _ _ _ _ _ _ (b .before .pre .2) (b .best-start .ensures) (c .if1 .taken)
+    none-found _ _ _ _ _ _ _ _ _ (b .before .pre .2) (b .best-start .ensures) (omega (arith, c .if1 .taken))
 
 walk-of-requires : tie.Need-walk-of-requires
 walk-of-requires c κs =

@@ -1,6 +1,7 @@
 -- `field::take` meets its contract.
 -- Assumes nothing.
 use mathlib.Core.Path.{sym, _∙_}
+use native.Mathlib.Omega.{arith}
 use borrow.Author.Tests.{not-true, not-false}
 use Rattle.field.specs.Laws.{took-refused, took-short, took-low, took-high, took-good}
 use borrow.Author.Needs.{needs}
@@ -25,7 +26,7 @@ stopped-requires c κs = search needs
 returns-2 : tie.Need-returns-2
 returns-2 c =
     let e = c .before .before in
-    took-short _ _ _ _ _ _ (sym (e .before .is-fine .ensures) ∙ not-false _ (e .if1 .left)) _ (c .before .if2 .taken) (c .stopped .ensures)
+    took-short _ _ _ _ _ _ (sym (e .before .is-fine .ensures) ∙ not-false _ (e .if1 .left)) _ (omega (arith, c .before .if2 .taken)) (c .stopped .ensures)
 
 number-at-requires : tie.Need-number-at-requires
 number-at-requires c κs = search needs
@@ -59,7 +60,7 @@ returns-4 c =
     let l = c .before .before .before in
     let n = l .before in
     let e = n .before .before in
-    took-high _ _ _ _ _ _ (sym (e .before .is-fine .ensures) ∙ not-false _ (e .if1 .left)) (n .before .if2 .left) _ (n .number-at .ensures) _ _ (l .if3 .left) (c .before .before .if4 .taken) (c .before .wrong-at2 .ensures) (c .stopped3 .ensures)
+    took-high _ _ _ _ _ _ (sym (e .before .is-fine .ensures) ∙ not-false _ (e .if1 .left)) (n .before .if2 .left) _ (n .number-at .ensures) _ _ (l .if3 .left) (omega (arith, c .before .before .if4 .taken)) (c .before .wrong-at2 .ensures) (c .stopped3 .ensures)
 
 add-t12 : tie.Need-add-t12
 add-t12 c = search needs

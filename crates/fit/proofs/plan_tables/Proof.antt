@@ -1,6 +1,7 @@
 -- `fit::plan_tables` meets its contract: each refusal in turn, else the retiming that fits.
 -- Assumes nothing.
 use mathlib.Core.Path.{sym, subst}
+use native.Mathlib.Omega.{arith}
 use borrow.Author.Needs.{needs}
 use borrow.Author.Tests.{not-true, not-false}
 use Rattle.legal.specs.Loop.{loopOf, pairOf}
@@ -22,7 +23,7 @@ unplanned-requires : tie.Need-unplanned-requires
 unplanned-requires c κs = search needs
 
 returns : tie.Need-returns
-returns c f lent = subst (Planned f) (sym (c .unplanned .ensures)) (plan-bare f (no-length f _ (lent .timed) (c .before .before .if1 .taken)) _ (c .before .none .ensures) _)
+returns c f lent = subst (Planned f) (sym (c .unplanned .ensures)) (plan-bare f (no-length f _ (lent .timed) (omega (arith, c .before .before .if1 .taken))) _ (c .before .none .ensures) _)
 
 knot-of-requires : tie.Need-knot-of-requires
 knot-of-requires c κs = let f = c .before .before .pre in lent-ends (f .0) _ _ _ _ _ (f .1)

@@ -50,8 +50,8 @@ loop-again c =
       λ g p timed.
           let is = part-is g p t timed (l .loop .c) _ _ (c .before .before .nodes-on .ensures .0) (c .before .units-part .ensures) in
           ⊎-elim
-          (λ w. rw (w .1, w .2) (busy-here g (l .loop .c) _ _ _ is (l .loop .inv .1 g p timed) (w .0 .taken)))
-          (λ w. rw (w .1, w .2) (busy-past g (l .loop .c) _ _ _ is (l .loop .inv .1 g p timed) (w .0 .left)))
+          (λ w. rw (w .1, w .2) (busy-here g (l .loop .c) _ _ _ is (l .loop .inv .1 g p timed) (omega (arith, w .0 .taken))))
+          (λ w. rw (w .1, w .2) (busy-past g (l .loop .c) _ _ _ is (l .loop .inv .1 g p timed) (omega (arith, w .0 .left))))
           (c .if1 .came),
     )
 

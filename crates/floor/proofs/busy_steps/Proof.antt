@@ -19,7 +19,7 @@ mul-result c = omega (arith, product (c .before .wide .result) (c .wide2 .result
 returns : tie.Need-returns
 returns c =
     let p = product (c .before .wide .result) (c .wide2 .result) 64 8 (omega (arith, c .before .wide .ensures .0)) (omega (arith, c .wide2 .ensures .0)) in
-    (rw (c .before .wide .ensures .0, c .wide2 .ensures .0, hold-plain (c .before .before .before .before .args .class) (c .before .before .if1 .taken)), omega arith)
+    (rw (c .before .wide .ensures .0, c .wide2 .ensures .0, hold-plain (c .before .before .before .before .args .class) (omega (arith, c .before .before .if1 .taken))), omega arith)
 
 wide-requires-3 : tie.Need-wide-requires-3
 wide-requires-3 c κs = search needs

@@ -21,7 +21,8 @@ alone-requires c κs = search needs
 returns : tie.Need-returns
 returns c =
     let r = c .before .before .before in
-    record-refused _ _ (r .read .ensures) _ (sym (c .before .before .is-fine .ensures) ∙ not-true _ (c .before .if1 .taken)) (c .alone .ensures)
+    record-refused _ _ (r .read .ensures) _ (sym (c .before .before .is-fine .ensures) ∙ not-true _ (c .before .if1 .taken))
+    (c .alone .ensures .0, omega (arith, c .alone .ensures .1), c .alone .ensures .2, c .alone .ensures .3)
 
 times-of-requires : tie.Need-times-of-requires
 times-of-requires c κs =

@@ -10,7 +10,7 @@ knot-of-requires : tie.Need-knot-of-requires
 knot-of-requires c κs = lent-ends (c .pre .0) _ _ _ _ _ (c .pre .1)
 
 returns : tie.Need-returns
-returns c f lent = floored-knot f _ (c .before .before .knot-of .ensures _ (lent .told)) (c .if1 .taken)
+returns c f lent = floored-knot f _ (c .before .before .knot-of .ensures _ (lent .told)) (omega (arith, c .if1 .taken))
 
 free-floor-requires : tie.Need-free-floor-requires
 free-floor-requires c κs =

@@ -3,6 +3,7 @@
 use mathlib.Core.Path.{_≡_}
 use mathlib.Core.Bool.{false}
 use mathlib.Core.Logic.{_≢_}
+use Prim.Native.Nat.{_<_}
 use native.Mathlib.Omega.{arith}
 use Rattle.form.specs.declared.Form.{Form}
 use Rattle.legal.specs.Loop.{loopOf}
@@ -44,6 +45,13 @@ measured p f lent free = p .before .before .parts-of .ensures _ _ (lent-paced f 
 is-floor : (p : tie.After-larger2) (f : Form) → Lent f (p .before .before .before .before .before .before .before .args .edges) (p .before .before .before .before .before .before .before .args .from .now) (p .before .before .before .before .before .before .before .args .to .now) (p .before .before .before .before .before .before .before .args .delays .now) (p .before .before .before .before .before .before .before .args .t5) → knotted (loopOf f) ≡ false → p .larger2 .result ≡ floorLength (loopOf f)
 is-floor p f lent free = floor-is _ _ _ _ _ _ _ (measured p f lent free) (p .before .larger .ensures) (p .larger2 .ensures)
 
+-- the tests settle which of them attains it
+not-latency : (p : tie.After-larger2) → p .before .before .parts-of .result .latency < p .before .larger .result → p .before .before .parts-of .result .latency ≢ p .larger2 .result
+not-latency p l e = omega (arith, p .larger2 .ensures)
+
+not-units : (p : tie.After-larger2) → p .before .before .parts-of .result .latency < p .before .larger .result → p .before .before .parts-of .result .units < p .before .before .parts-of .result .cycle → p .before .before .parts-of .result .units ≢ p .larger2 .result
+not-units p l m e = omega (arith, p .before .larger .ensures, p .larger2 .ensures)
+
 alone-requires : tie.Need-alone-requires
 alone-requires c κs = search needs
 
@@ -51,7 +59,7 @@ returns : tie.Need-returns
 returns c f lent free =
     let p = c .before .before .before in
     floored-alone f free _ _ _ (omega arith)
-    (attains-latency _ _ _ _ _ _ _ (measured p f lent free) (p .before .larger .ensures) (p .larger2 .ensures) (c .before .if1 .taken))
+    (attains-latency _ _ _ _ _ _ _ (measured p f lent free) (p .before .larger .ensures) (p .larger2 .ensures) (omega (arith, p .larger2 .ensures, c .before .if1 .taken)))
     (is-floor p f lent free) (c .alone .ensures)
 
 cast-t20 : tie.Need-cast-t20
@@ -64,7 +72,8 @@ returns-2 : tie.Need-returns-2
 returns-2 c f lent free =
     let p = c .before .before .before .before .before .before in
     floored-alone f free _ _ _ (omega arith)
-    (attains-units _ _ _ _ _ _ _ (measured p f lent free) (p .before .larger .ensures) (p .larger2 .ensures) (c .before .before .before .before .if1 .left) (c .before .before .if2 .taken))
+    (attains-units _ _ _ _ _ _ _ (measured p f lent free) (p .before .larger .ensures) (p .larger2 .ensures) (not-latency p (omega (arith, c .before .before .before .before .if1 .left)))
+    (omega (arith, p .before .larger .ensures, p .larger2 .ensures, c .before .before .before .before .if1 .left, c .before .before .if2 .taken)))
     (is-floor p f lent free) (c .alone2 .ensures)
 
 -- where neither of the others attains it, the cycle does
@@ -80,7 +89,7 @@ below p f lent free n m = below-short f free (lent .good) _ (by-cycle p f lent f
 sub-short : tie.Need-sub-short
 sub-short c =
     let f = c .before .before .before .before .before .before .before .before .before .before .before .pre in
-    omega (arith, below (c .before .before .before .before) (f .0) (f .1) (f .2) (c .before .before .if1 .left) (c .if2 .left) .0)
+    omega (arith, below (c .before .before .before .before) (f .0) (f .1) (f .2) (not-latency (c .before .before .before .before) (omega (arith, c .before .before .if1 .left))) (not-units (c .before .before .before .before) (omega (arith, c .before .before .if1 .left)) (omega (arith, c .if2 .left))) .0)
 
 cast-t23 : tie.Need-cast-t23
 cast-t23 c = search needs
@@ -88,15 +97,15 @@ cast-t23 c = search needs
 breaking-cycle-requires : tie.Need-breaking-cycle-requires
 breaking-cycle-requires c κs =
     let f = c .before .before .before .before .before .before .before .before .before .before .before .before .pre in
-    let b = below (c .before .before .before .before .before) (f .0) (f .1) (f .2) (c .before .before .before .if1 .left) (c .before .if2 .left) in
+    let b = below (c .before .before .before .before .before) (f .0) (f .1) (f .2) (not-latency (c .before .before .before .before .before) (omega (arith, c .before .before .before .if1 .left))) (not-units (c .before .before .before .before .before) (omega (arith, c .before .before .before .if1 .left)) (omega (arith, c .before .if2 .left))) in
     (lent-edged (f .0) _ _ _ _ _ (f .1), omega (arith, b .0, b .1))
 
 returns-3 : tie.Need-returns-3
 returns-3 c f lent free =
     let a = c .before .before .before .before .before .before .before .before .before .before .before .before .before .args in
     let p = c .before .before .before .before .before .before in
-    let b = below p f lent free (c .before .before .before .before .if1 .left) (c .before .before .if2 .left) in
-    floored-cycle f free _ _ (by-cycle p f lent free (c .before .before .before .before .if1 .left) (c .before .before .if2 .left)) (is-floor p f lent free)
+    let b = below p f lent free (not-latency p (omega (arith, c .before .before .before .before .if1 .left))) (not-units p (omega (arith, c .before .before .before .before .if1 .left)) (omega (arith, c .before .before .if2 .left))) in
+    floored-cycle f free _ _ (by-cycle p f lent free (not-latency p (omega (arith, c .before .before .before .before .if1 .left))) (not-units p (omega (arith, c .before .before .before .before .if1 .left)) (omega (arith, c .before .before .if2 .left)))) (is-floor p f lent free)
     (c .breaking-cycle .ensures _ (lent .told) (lent-costed f _ (a .from .now) (a .to .now) (a .delays .now) _ lent (c .before .before .before .before .before .before .before .before .before .before .costs-of .result) (c .before .before .before .before .before .before .before .before .before .before .costs-of .ensures)) (b .2 _ (omega (arith, b .0))))
 
 pub free-floor-spec : {M : Type 1} → statement M

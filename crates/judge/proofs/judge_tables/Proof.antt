@@ -1,5 +1,6 @@
 -- `judge::judge_tables` meets its contract: no schedule, a knot, then the rules.
 -- Assumes nothing.
+use native.Mathlib.Omega.{arith}
 use borrow.Author.Needs.{needs}
 use Rattle.legal.specs.Loop.{loopOf, pairOf}
 use Rattle.tables.specs.Times.{no-length, some-length}
@@ -19,7 +20,7 @@ knot-of-requires : tie.Need-knot-of-requires
 knot-of-requires c κs = let f = c .before .before .pre in lent-ends (f .0) _ _ _ _ _ (f .1)
 
 returns-2 : tie.Need-returns-2
-returns-2 c = λ f lent. judged-knot f (some-length f _ (lent .timed) (c .before .before .before .if1 .left)) _ (c .before .before .knot-of .ensures _ (lent .told)) (c .if2 .taken)
+returns-2 c = λ f lent. judged-knot f (some-length f _ (lent .timed) (c .before .before .before .if1 .left)) _ (c .before .before .knot-of .ensures _ (lent .told)) (omega (arith, c .if2 .taken))
 
 broken-edge-requires : tie.Need-broken-edge-requires
 broken-edge-requires c κs = let f = c .before .before .before .before .before .pre in (lent-ends (f .0) _ _ _ _ _ (f .1), (loopOf (f .0), (pairOf (f .0), f .1 .told, f .1 .timed)))
@@ -32,7 +33,7 @@ alone-requires-2 c κs = search needs
 
 returns-3 : tie.Need-returns-3
 returns-3 c = λ f lent.
-    judged-rules f _ (some-length f _ (lent .timed) (c .before .before .before .before .before .before .if1 .left)) _ (c .before .before .before .before .before .knot-of .ensures _ (lent .told)) (c .before .before .before .if2 .left) _
+    judged-rules f _ (some-length f _ (lent .timed) (c .before .before .before .before .before .before .if1 .left)) _ (c .before .before .before .before .before .knot-of .ensures _ (lent .told)) (omega (arith, c .before .before .before .if2 .left)) _
     (edge-refused _ _ _ _ (lent .told .all-edges) (c .before .before .broken-edge .ensures _ _ (lent .told) (lent .timed)) (c .before .if3 .taken)) (c .alone2 .ensures .0) (c .alone2 .ensures .1)
 
 crowded-requires : tie.Need-crowded-requires

@@ -35,8 +35,8 @@ write-plan-requires c κs =
     let i = p .before in
     let r = i .before .before in
     let a = r .before .before .before .args in
-    plan-taken (rotateAsked (a .steps)) (rotatedBy (a .steps)) unturned (a .«record» .now) (a .out .now) _ (r .read .ensures) (λ i. omega (arith, r .before .before .shared-slice-known .given i))
-    (sym (i .before .is-fine .ensures) ∙ not-false _ (i .if1 .left)) (rotate-writes (a .steps)) _ (p .rotate-plan .ensures)
+    plan-taken _ _ unturned (a .«record» .now) (a .out .now) _ (r .read .ensures) (λ i. omega (arith, r .before .before .shared-slice-known .given i))
+    (sym (i .before .is-fine .ensures) ∙ not-false _ (i .if1 .left)) (rotate-writes _) _ (p .rotate-plan .ensures)
 
 same-length : tie.Need-same-length
 same-length c = search needs

@@ -62,7 +62,7 @@ wide-requires : tie.Need-wide-requires Inv-loop μ-loop
 wide-requires c κs = search needs
 
 element-copy-out-wide-2 : tie.Need-element-copy-out-wide-2 Inv-loop μ-loop
-element-copy-out-wide-2 c = omega (arith, tail-in (c .before .before .before .before))
+element-copy-out-wide-2 c = omega (arith, tail-in (c .before .before .before .before), head-in (c .before .before .before .before))
 
 wide-requires-2 : tie.Need-wide-requires-2 Inv-loop μ-loop
 wide-requires-2 c κs = search needs
@@ -86,7 +86,7 @@ element-copy-out-later-2 : tie.Need-element-copy-out-later-2 Inv-loop μ-loop
 element-copy-out-later-2 c = omega (arith, tail-in (c .before .before .before .before .before .before .before .before))
 
 element-copy-out-wide-3 : tie.Need-element-copy-out-wide-3 Inv-loop μ-loop
-element-copy-out-wide-3 c = omega (arith, head-in (c .before .before .before .before .before .before .before .before .before))
+element-copy-out-wide-3 c = omega (arith, tail-in (c .before .before .before .before .before .before .before .before .before), head-in (c .before .before .before .before .before .before .before .before .before))
 
 wide-requires-3 : tie.Need-wide-requires-3 Inv-loop μ-loop
 wide-requires-3 c κs = search needs
@@ -112,10 +112,10 @@ sides : (c : tie.After-wide4 Inv-loop μ-loop) (g : Loop) (p : Pair)
     → Timed g p (c .before .before .before .before .before .before .before .before .before .before .before .before .before .before .before .before .args .t5)
     → Sides g p (c .before .before .before .before .before .before .before .before .before .before .before .before .before .before .before .before .args .edges - c .before .before .before .before .before .before .before .before .before .before .before .before .before .before .before .loop .left) (c .before .before .before .before .before .before .later .result) (c .before .before .later2 .result) (c .wide4 .result)
 sides c g p told timed =
-    sides-are g p _ _ _ _ _ (c .before .before .before .before .before .before .before .before .before .before .before .before .before .before .before .before .pre .0) told timed _ _ _ _ _ _ _ (omega arith) (c .before .before .before .before .before .before .before .before .before .before .wide .ensures .0) (c .before .before .before .before .before .before .before .before .wide2 .ensures .0) (c .before .before .before .wide3 .ensures .0) (c .before .before .before .before .before .before .later .ensures .0) (c .before .before .later2 .ensures .0) (c .wide4 .ensures .0)
+    sides-are g p _ _ _ _ _ (c .before .before .before .before .before .before .before .before .before .before .before .before .before .before .before .before .pre .0) told timed _ _ (c .before .before .before .before .before .before .before .before .wide2 .result) (c .before .before .before .wide3 .result) _ _ _ (omega arith) (c .before .before .before .before .before .before .before .before .before .before .wide .ensures .0) (omega (arith, c .before .before .before .before .before .before .before .before .wide2 .ensures .0)) (omega (arith, c .before .before .before .wide3 .ensures .0)) (c .before .before .before .before .before .before .later .ensures .0) (c .before .before .later2 .ensures .0) (c .wide4 .ensures .0)
 
 returns : tie.Need-returns Inv-loop μ-loop
-returns c = λ g p told timed. left-here _ _ _ _ (c .before .before .before .before .before .before .before .before .before .before .before .before .before .before .before .loop-test .taken) (c .before .before .before .before .before .before .before .before .before .before .before .before .before .before .before .before .loop .inv .0) (c .before .before .before .before .before .before .before .before .before .before .before .before .before .before .before .before .loop .inv .1 g p told timed) (edge-breaks _ _ _ _ _ _ (sides (c .before) g p told timed) (c .if1 .taken))
+returns c = λ g p told timed. left-here _ _ _ _ (c .before .before .before .before .before .before .before .before .before .before .before .before .before .before .before .loop-test .taken) (c .before .before .before .before .before .before .before .before .before .before .before .before .before .before .before .before .loop .inv .0) (c .before .before .before .before .before .before .before .before .before .before .before .before .before .before .before .before .loop .inv .1 g p told timed) (edge-breaks _ _ _ _ _ _ (sides (c .before) g p told timed) (omega (arith, c .if1 .taken)))
 
 sub-left : tie.Need-sub-left Inv-loop μ-loop
 sub-left c = search needs
@@ -124,7 +124,7 @@ loop-less : tie.Need-loop-less Inv-loop μ-loop
 loop-less c = search needs
 
 loop-again : tie.Need-loop-again Inv-loop μ-loop
-loop-again c = (search needs, λ g p told timed. left-next _ _ _ _ (c .before .before .before .before .before .before .before .before .before .before .before .before .before .before .before .loop-test .taken) (c .before .before .before .before .before .before .before .before .before .before .before .before .before .before .before .before .loop .inv .0) (c .before .before .before .before .before .before .before .before .before .before .before .before .before .before .before .before .loop .inv .1 g p told timed) (edge-keeps _ _ _ _ _ _ (sides (c .before) g p told timed) (c .if1 .left)))
+loop-again c = (search needs, λ g p told timed. left-next _ _ _ _ (c .before .before .before .before .before .before .before .before .before .before .before .before .before .before .before .loop-test .taken) (c .before .before .before .before .before .before .before .before .before .before .before .before .before .before .before .before .loop .inv .0) (c .before .before .before .before .before .before .before .before .before .before .before .before .before .before .before .before .loop .inv .1 g p told timed) (edge-keeps _ _ _ _ _ _ (sides (c .before) g p told timed) (omega (arith, c .if1 .left))))
 
 returns-2 : tie.Need-returns-2 Inv-loop μ-loop
 returns-2 c = λ g p told timed. left-none _ _ _ _ (c .loop-test .left) (c .before .loop .inv .1 g p told timed)

@@ -1,9 +1,9 @@
 -- `search::search_form` meets its contract: the rest of the search equals the whole.
 -- Assumes nothing.
-use Prim.Native.Nat.{_-_}
+use Prim.Native.Nat.{_+_, _-_}
 use native.Mathlib.Omega.{arith}
 use borrow.Author.Needs.{needs}
-use Rattle.search.proofs.Going.{Going, going-none, going-end, going-zero, going-good, going-long, going-turn}
+use Rattle.search.proofs.Going.{Going, going-none, going-end, going-zero, turn-good, going-long, going-turn}
 use Rattle.search.proofs.search_form.Statement.{statement}
 use Rattle.search.proofs.search_form.Tie as tie
 
@@ -11,7 +11,7 @@ abbrev Inv-loop : tie.InvT-loop
 Inv-loop count size now₀ best₀ steps₀ rotations₀ now best steps rotations = Going now₀ count size now best steps rotations
 
 abbrev μ-loop : tie.MeasureT-loop
-μ-loop count size now₀ best₀ steps₀ rotations₀ now best steps rotations = count - rotations
+μ-loop count size now₀ best₀ steps₀ rotations₀ now best steps rotations = count + 1 - rotations
 
 first-form-requires : tie.Need-first-form-requires Inv-loop μ-loop
 first-form-requires c κs = search needs
@@ -27,7 +27,8 @@ halve-requires c κs = c .before .loop .inv .good .some
 rotate-form-requires : tie.Need-rotate-form-requires Inv-loop μ-loop
 rotate-form-requires c κs =
     let h = c .before in
-    going-good _ _ _ _ _ _ _ (h .before .before .loop .inv) _ (h .halve .ensures) (λ e. omega (arith, e, c .if1 .left))
+    let l = h .before .before in
+    turn-good _ (l .loop .inv .good) _ _ (omega (arith, l .loop .inv .small)) (h .halve .ensures) (λ e. omega (arith, e, c .if1 .left))
 
 shorter-of-requires : tie.Need-shorter-of-requires Inv-loop μ-loop
 shorter-of-requires c κs = search needs

@@ -3,6 +3,7 @@
 use mathlib.Core.Path.{_≡_}
 use Prim.Native.Nat.{_≤_, _-_}
 use lib.ListN.{length, take}
+use native.Mathlib.Omega.{arith}
 use borrow.Author.Needs.{needs}
 use Rattle.writer.specs.Laid.{Laid}
 use Rattle.writer.proofs.Laws.{nothing, byte-more, copied}
@@ -31,13 +32,13 @@ loop-less : tie.Need-loop-less Inv-loop μ-loop
 loop-less c = search needs
 
 loop-again : tie.Need-loop-again Inv-loop μ-loop
-loop-again c = (search needs, search needs, byte-more _ _ _ _ (c .before .loop-test .taken) (c .before .before .loop .inv .2))
+loop-again c = (search needs, search needs, byte-more _ _ _ _ (omega (arith, c .before .loop-test .taken, c .before .before .loop .inv .0)) (c .before .before .loop .inv .2))
 
 same-length : tie.Need-same-length Inv-loop μ-loop
 same-length c = search needs
 
 returns : tie.Need-returns Inv-loop μ-loop
-returns c = copied _ _ _ _ (c .loop-test .left) (c .before .loop .inv .2) .is
+returns c = copied _ _ _ _ (omega (arith, c .loop-test .left)) (c .before .loop .inv .2) .is
 
 pub copy-spec : {M : Type 1} → statement M
 copy-spec =

@@ -24,12 +24,6 @@ read-requires c κs = search needs
 is-fine-requires : tie.Need-is-fine-requires
 is-fine-requires c κs = search needs
 
-returns : tie.Need-returns
-returns c =
-    let r = c .before .before in
-    let l = r .before .before .lay .ensures in
-    refused (replicate 1367 0) _ _ _ (l .1) (l .0) _ (r .read .ensures) _ (sym (c .before .is-fine .ensures) ∙ not-true _ (c .if1 .taken))
-
 put-requires : tie.Need-put-requires
 put-requires c κs =
     let l = c .before .before .before .before .before .lay .ensures in
@@ -46,6 +40,12 @@ returns-2 c =
     let l = r .before .before .lay .ensures in
     p .put .ensures _ (front (replicate 1367 0) _ _ _ (l .1) (l .0))
     (accepted (replicate 1367 0) _ _ _ (l .1) (l .0) _ (r .read .ensures) (sym (i .before .is-fine .ensures) ∙ not-false _ (i .if1 .left)))
+
+returns : tie.Need-returns
+returns c =
+    let r = c .before .before in
+    let l = r .before .before .lay .ensures in
+    refused (replicate 1367 0) _ _ _ (l .1) (l .0) _ (r .read .ensures) _ (sym (c .before .is-fine .ensures) ∙ not-true _ (c .if1 .taken))
 
 pub write-spec : {M : Type 1} → statement M
 write-spec =

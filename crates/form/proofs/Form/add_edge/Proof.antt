@@ -1,5 +1,6 @@
 -- `form::Form::add_edge` meets its contract.
 -- Assumes nothing.
+use native.Mathlib.Omega.{arith}
 use borrow.Author.Tests.{le-ltb, lt-ltb}
 use Rattle.lists.specs.Pick.{pick}
 use Rattle.form.specs.Adding.{addedTo, edgeAdded}
@@ -9,7 +10,7 @@ use Rattle.form.proofs.Form.add_edge.Tie as tie
 
 returns : tie.Need-returns
 unfolding edgeAdded addedTo pick
-returns c = simp (le-ltb _ _ (c .if1 .taken))
+returns c = simp (le-ltb (c .before .args .t1 .edges) 256 (omega (arith, c .if1 .taken)))
 
 cast-at : tie.Need-cast-at
 cast-at c = search needs
@@ -28,7 +29,7 @@ add-self c = search needs
 
 returns-2 : tie.Need-returns-2
 unfolding edgeAdded addedTo pick
-returns-2 c = simp (lt-ltb _ _ (c .if1 .left))
+returns-2 c = simp (lt-ltb (c .before .args .t1 .edges) 256 (omega (arith, c .if1 .left)))
 
 pub add-edge-spec : {M : Type 1} → statement M
 add-edge-spec =
