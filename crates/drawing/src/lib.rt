@@ -284,7 +284,16 @@ fn put_columns<'a>(
     while c < classes {
         let row = class[c as usize];
         next = put_places(
-            out, next, step, c, row, length, nodes, kind, start, retiming,
+            out,
+            next,
+            step,
+            c,
+            row,
+            length,
+            nodes,
+            kind,
+            start,
+            retiming,
         );
         c += 1;
     }

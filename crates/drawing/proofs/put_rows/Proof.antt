@@ -32,8 +32,7 @@ add-put-row c = search tests
 put-row-requires : tie.Need-put-row-requires Inv-loop μ-loop
 put-row-requires c κs =
     let l = c .before .before .before .before .before .before in
-    let p = l .before .before .before .pre .1 in
-    (
+    let p = l .before .before .before .pre .1 in (
       omega (arith, l .loop .inv .1, tabled-length _ p),
       omega (arith, tabled-length _ p),
       tabled-nodes _ p,
