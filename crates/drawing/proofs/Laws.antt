@@ -22,7 +22,8 @@ use Rattle.form.specs.Places.{classOf, nodeOf, startOf, retimingOf}
 use Rattle.lists.specs.Span.{span}
 use Rattle.lists.specs.Fold.{sumOf}
 use Rattle.lists.specs.Sums.{sum-same}
-use Rattle.legal.specs.Loop.{hold, graphOf, loopOf, pairOf}
+use Rattle.form.specs.Hold.{hold}
+use Rattle.legal.specs.Loop.{graphOf, loopOf, pairOf}
 use Rattle.legal.specs.Legal.{busy}
 use Rattle.rules.specs.Busy.{heldOn, busyIn}
 use Rattle.drawing.specs.Noted.{Noted}

@@ -28,7 +28,8 @@ use Rattle.form.specs.Places.{classOf, nodeOf, startOf, retimingOf}
 use Rattle.form.specs.Ranges.{GoodClass, WellFormed}
 use Rattle.writer.specs.Layout.{rows}
 use Rattle.text.specs.Decimal.{decimal, newline}
-use Rattle.legal.specs.Loop.{hold, graphOf, loopOf, pairOf}
+use Rattle.form.specs.Hold.{hold}
+use Rattle.legal.specs.Loop.{graphOf, loopOf, pairOf}
 use Rattle.legal.specs.Legal.{busy, UnitRule}
 use Rattle.legal.specs.Busy.{hold-some, spans, busy-plain}
 use Rattle.legal.specs.Shape.{sound-form, placed-form, plain-form}

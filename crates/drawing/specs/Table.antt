@@ -14,7 +14,8 @@ use Rattle.form.specs.Places.{classOf, nodeOf, startOf, retimingOf}
 use Rattle.reader.specs.Reading.{readForm}
 use Rattle.writer.specs.Layout.{rows}
 use Rattle.text.specs.Decimal.{decimal, newline}
-use Rattle.legal.specs.Loop.{hold, loopOf, pairOf}
+use Rattle.form.specs.Hold.{hold}
+use Rattle.legal.specs.Loop.{loopOf, pairOf}
 use Rattle.legal.specs.Legal.{busy}
 use Rattle.listing.specs.Lines.{retimingText}
 use Rattle.drawing.specs.Words.{

@@ -19,9 +19,9 @@ ghost use Rattle.drawing.specs.Table.{blanks, right, classLine, headText
 ghost use Rattle.rules.specs.Busy.{StartsIn};
 ghost use Rattle.drawing.specs.Noted.{Noted, Narrow, Tabled};
 use form::Class;
+use form::hold_of;
 use listing::put_retiming;
 use rules::busy_in;
-use rules::hold_of;
 use tables::Timetable;
 use text::put_byte;
 use text::put_field;

@@ -28,7 +28,8 @@ use Rattle.system.specs.Rounds.{settledOf}
 use Rattle.system.specs.Same.{Same, same-settled, same-losing}
 use Rattle.solve.specs.declared.Solution.{Solution}
 use Rattle.solve.specs.Solved.{Solved}
-use Rattle.legal.specs.Loop.{Loop, Pair, graphOf, loopOf, runsOn, hold}
+use Rattle.form.specs.Hold.{hold}
+use Rattle.legal.specs.Loop.{Loop, Pair, graphOf, loopOf, runsOn}
 use Rattle.legal.specs.Systems.{knotted, paces}
 use Rattle.legal.specs.Shape.{sound-form}
 use Rattle.tables.specs.declared.Timetable.{Timetable}

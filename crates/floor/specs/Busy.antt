@@ -10,7 +10,8 @@ use Rattle.lists.specs.Pick.{pick}
 use Rattle.lists.specs.Span.{span}
 use Rattle.lists.specs.Fold.{sumOf, sum-times}
 use Rattle.lists.specs.Sums.{bit, sum-swap, sum-zero, sum-same, sum-le, sum-each, count-sum, top-under}
-use Rattle.legal.specs.Loop.{Loop, Pair, runsOn, hold}
+use Rattle.form.specs.Hold.{hold}
+use Rattle.legal.specs.Loop.{Loop, Pair, runsOn}
 use Rattle.legal.specs.Held.{held, held-total}
 use Rattle.legal.specs.Legal.{busy, UnitRule, Legal}
 use Rattle.legal.specs.Shape.{Sound}

@@ -7,7 +7,8 @@ use Rattle.lists.specs.Span.{span}
 use Rattle.lists.specs.Fold.{count, top}
 use Rattle.lists.specs.First.{firstFrom}
 use Rattle.system.specs.Rounds.{settledOf}
-use Rattle.legal.specs.Loop.{Loop, runsOn, latency, hold}
+use Rattle.form.specs.Hold.{hold}
+use Rattle.legal.specs.Loop.{Loop, runsOn, latency}
 use Rattle.legal.specs.Systems.{paces}
 
 module _ (g : Loop) where

@@ -1,3 +1,4 @@
 pub mod Places
 pub mod Adding
 pub mod Ranges
+pub mod Hold

@@ -1,6 +1,7 @@
 // The held form of a record: the machine's classes beside the loop, and the schedule if there is one.
 ghost use mathlib.Core.Path.{_≡_};
 ghost use Rattle.form.specs.Places.{emptyForm};
+ghost use Rattle.form.specs.Hold.{hold};
 ghost use Rattle.form.specs.Adding.{classAdded, nodeAdded, edgeAdded};
 use answer::Refusal;
 
@@ -145,4 +146,14 @@ impl Form {
             refusal: Refusal::None,
         }
     }
+}
+
+// How many steps an operation holds its unit.
+pub fn hold_of(class: Class) -> u8
+    ensures { λ r. ⌜ r ≡ hold class ⌝ }
+{
+    if class.pipelined == 0 {
+        return class.latency;
+    }
+    1
 }

@@ -15,7 +15,8 @@ use Rattle.lists.specs.Counted.{span-none}
 use Rattle.lists.specs.Quotient.{divided}
 use Rattle.lists.specs.Sums.{bit, count-sum, sum-same}
 use Rattle.form.specs.declared.Class.{Class}
-use Rattle.legal.specs.Loop.{plain, Loop, Pair, runsOn, latency, hold}
+use Rattle.form.specs.Hold.{hold}
+use Rattle.legal.specs.Loop.{plain, Loop, Pair, runsOn, latency}
 use Rattle.legal.specs.Legal.{busy}
 use Rattle.legal.specs.Shape.{Sound, Bodied, plain-ends}
 use Rattle.legal.specs.Held.{lands, held, held-plain}

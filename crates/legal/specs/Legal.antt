@@ -8,7 +8,8 @@ use Rattle.lists.specs.Pick.{pick}
 use Rattle.lists.specs.Span.{span}
 use Rattle.lists.specs.Fold.{sumOf}
 use Rattle.system.specs.Graph.{Cycle}
-use Rattle.legal.specs.Loop.{Loop, Pair, within, reach, runsOn, latency, hold}
+use Rattle.form.specs.Hold.{hold}
+use Rattle.legal.specs.Loop.{Loop, Pair, within, reach, runsOn, latency}
 use Rattle.legal.specs.Held.{held}
 
 module _ (g : Loop) (p : Pair) where

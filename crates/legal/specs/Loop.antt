@@ -47,10 +47,6 @@ runsOn g v = g .node v .class
 abbrev pub latency : Loop → ℕ → ℕ
 latency g v = g .class (runsOn g v) .latency
 
--- how many steps an operation of a class occupies its unit: all of them on a plain class, the first alone on a pipelined one
-unfoldable pub hold : Class → ℕ
-hold k = pick (eqb (k .pipelined) 0) (k .latency) 1
-
 unfoldable pub graphOf : Form → Graph
 graphOf f = record {
   nodes = f .nodes;

@@ -17,7 +17,8 @@ use Rattle.form.specs.declared.Form.{Form}
 use Rattle.form.specs.declared.BodyStep.{BodyStep}
 use Rattle.form.specs.Places.{classOf, noStep, retimingOf}
 use Rattle.form.specs.Ranges.{WellFormed}
-use Rattle.legal.specs.Loop.{graphOf, loopOf, hold}
+use Rattle.form.specs.Hold.{hold}
+use Rattle.legal.specs.Loop.{graphOf, loopOf}
 use Rattle.tables.specs.declared.Timetable.{Timetable}
 use Rattle.tables.specs.Times.{timesOf}
 use Rattle.reach.specs.Weight.{weight}

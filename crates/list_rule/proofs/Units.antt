@@ -17,7 +17,8 @@ use Rattle.lists.specs.Fold.{count}
 use Rattle.form.specs.declared.Form.{Form}
 use Rattle.form.specs.Places.{classOf, nodeOf}
 use Rattle.form.specs.Ranges.{WellFormed}
-use Rattle.legal.specs.Loop.{graphOf, loopOf, hold}
+use Rattle.form.specs.Hold.{hold}
+use Rattle.legal.specs.Loop.{graphOf, loopOf}
 use Rattle.list_rule.specs.Rule.{startAt, uses}
 use Rattle.list_rule.specs.Tables.{holdsAt, Raised, Used}
 use Rattle.list_rule.proofs.Laws.{both-false, adds-one, adds-none, count-more, count-within, count-change}

@@ -18,7 +18,8 @@ use Rattle.lists.specs.Fold.{fold}
 use Rattle.lists.specs.Count.{some-or-none}
 use Rattle.lists.specs.Counted.{span-none}
 use Rattle.lists.specs.Place.{zeros-at}
-use Rattle.legal.specs.Loop.{Loop, latency, runsOn, hold}
+use Rattle.form.specs.Hold.{hold}
+use Rattle.legal.specs.Loop.{Loop, latency, runsOn}
 use Rattle.legal.specs.Shape.{Sound}
 use Rattle.reach.specs.Weight.{tight, weight}
 use Rattle.list_rule.specs.Order.{orderOf}

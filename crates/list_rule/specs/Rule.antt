@@ -8,7 +8,8 @@ use lib.ListN.{getD, set}
 use Rattle.lists.specs.Pick.{pick}
 use Rattle.lists.specs.Span.{span}
 use Rattle.lists.specs.Fold.{count, fold, top}
-use Rattle.legal.specs.Loop.{Loop, runsOn, latency, hold}
+use Rattle.form.specs.Hold.{hold}
+use Rattle.legal.specs.Loop.{Loop, runsOn, latency}
 use Rattle.reach.specs.Weight.{tight, weight}
 use Rattle.list_rule.specs.Order.{orderOf}
 

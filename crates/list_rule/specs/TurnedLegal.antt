@@ -14,7 +14,8 @@ use Rattle.lists.specs.Both.{both-and}
 use Rattle.lists.specs.Fold.{fold}
 use Rattle.lists.specs.Place.{set-view}
 use Rattle.lists.specs.Count.{count-le, count-some}
-use Rattle.legal.specs.Loop.{plain, within, Loop, Pair, runsOn, latency, hold}
+use Rattle.form.specs.Hold.{hold}
+use Rattle.legal.specs.Loop.{plain, within, Loop, Pair, runsOn, latency}
 use Rattle.legal.specs.Legal.{Legal, UnitRule, busy}
 use Rattle.legal.specs.Systems.{lateness, Fits}
 use Rattle.legal.specs.Shape.{Sound, Bodied, plain-ends}

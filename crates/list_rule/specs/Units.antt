@@ -17,7 +17,8 @@ use Rattle.lists.specs.Fold.{fold}
 use Rattle.lists.specs.Count.{count-same}
 use Rattle.lists.specs.Counted.{count-one, span-none, none-span}
 use Rattle.lists.specs.Place.{set-view, zeros-at}
-use Rattle.legal.specs.Loop.{plain, Loop, Pair, runsOn, hold}
+use Rattle.form.specs.Hold.{hold}
+use Rattle.legal.specs.Loop.{plain, Loop, Pair, runsOn}
 use Rattle.legal.specs.Legal.{busy}
 use Rattle.legal.specs.Shape.{Sound, Bodied}
 use Rattle.legal.specs.Busy.{spans, busy-plain}

@@ -9,7 +9,8 @@ use Rattle.lists.specs.Span.{span}
 use Rattle.lists.specs.Fold.{count, fold, top}
 use Rattle.form.specs.declared.Operation.the-variants.{Add, Mul}
 use Rattle.form.specs.Places.{noClass, noNode}
-use Rattle.legal.specs.Loop.{Loop, hold}
+use Rattle.form.specs.Hold.{hold}
+use Rattle.legal.specs.Loop.{Loop}
 use Rattle.reach.specs.Weight.{tight, spread, sweep, reach, reachedFrom, weight}
 use Rattle.list_rule.specs.Order.{insert, orderOf}
 use Rattle.list_rule.specs.Rule.{uses, inUse, free, blocks, ready, place, fillStep, allPlaced, fillFrom, listRule, lengthOf}

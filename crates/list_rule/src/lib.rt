@@ -9,7 +9,8 @@ ghost use Rattle.lists.specs.Span.{span};
 ghost use Rattle.lists.specs.Fold.{count};
 ghost use Rattle.form.specs.Places.{retimingOf};
 ghost use Rattle.form.specs.Ranges.{WellFormed};
-ghost use Rattle.legal.specs.Loop.{loopOf, hold};
+ghost use Rattle.form.specs.Hold.{hold};
+ghost use Rattle.legal.specs.Loop.{loopOf};
 ghost use Rattle.tables.specs.Edges.{Ends as EdgesIn};
 ghost use Rattle.reach.specs.Weight.{weight as weightIn};
 ghost use Rattle.list_rule.specs.Order.{insert as insertIn, orderOf};
@@ -19,14 +20,11 @@ use form::BodyStep;
 use form::Class;
 use form::Form;
 
-// How many steps an operation holds its unit.
+// How many steps an operation holds its unit, as wide as a step.
 fn hold_of(class: Class) -> u16
     ensures { λ r. ⌜ r ≡ hold class ⌝ }
 {
-    if class.pipelined == 0 {
-        return class.latency as u16;
-    }
-    1
+    form::hold_of(class) as u16
 }
 
 // The place of a step and a class in the table of use.

@@ -10,7 +10,8 @@ use native.Mathlib.Decide.{decLt}
 use native.Mathlib.Nat.{add-mul-mod-self-right, mod-eq-of-lt, zero-mul}
 use Rattle.lists.specs.Quotient.{divided, rows-below, rows-apart, row-of}
 use Rattle.lists.specs.Inject.{without, without-other, count-without, count-inject}
-use Rattle.legal.specs.Loop.{Loop, Pair, runsOn, hold}
+use Rattle.form.specs.Hold.{hold}
+use Rattle.legal.specs.Loop.{Loop, Pair, runsOn}
 use Rattle.legal.specs.Shape.{Sound, Within}
 use Rattle.machine.specs.Run.{depth}
 use Rattle.machine.specs.Moments.{under-depth, repOf, issueStep, moment}

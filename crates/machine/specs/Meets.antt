@@ -13,7 +13,8 @@ use Rattle.lists.specs.Count.{count-some}
 use Rattle.lists.specs.Last.{Last, last-or-none}
 use Rattle.lists.specs.Quotient.{divided, rows-below, rows-apart, row-of}
 use Rattle.lists.specs.Inject.{without, without-other, without-same, count-without, count-inject}
-use Rattle.legal.specs.Loop.{Loop, Pair, runsOn, latency, hold}
+use Rattle.form.specs.Hold.{hold}
+use Rattle.legal.specs.Loop.{Loop, Pair, runsOn, latency}
 use Rattle.legal.specs.Shape.{Sound, Within}
 use Rattle.legal.specs.Limits.{EdgeRules}
 use Rattle.machine.specs.Run.{depth}

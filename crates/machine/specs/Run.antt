@@ -12,7 +12,8 @@ use Rattle.lists.specs.First.{firstFrom}
 use Rattle.answer.specs.Refused.{fine}
 use Rattle.answer.specs.declared.Refusal.{Refusal}
 use Rattle.answer.specs.declared.Refusal.the-variants.{None, Early, Busy}
-use Rattle.legal.specs.Loop.{Loop, Pair, runsOn, latency, hold}
+use Rattle.form.specs.Hold.{hold}
+use Rattle.legal.specs.Loop.{Loop, Pair, runsOn, latency}
 use Rattle.machine.specs.Values.{placeOf, fromStart, computed}
 
 -- the values and finish steps so far, and what stopped the run, None while it goes

@@ -17,7 +17,8 @@ use Rattle.lists.specs.Fold.{count}
 use Rattle.lists.specs.First.{first-is, first-past}
 use Rattle.lists.specs.Count.{count-same}
 use Rattle.lists.specs.Quotient.{row-of, rows-below}
-use Rattle.legal.specs.Loop.{Loop, Pair, runsOn, latency, hold}
+use Rattle.form.specs.Hold.{hold}
+use Rattle.legal.specs.Loop.{Loop, Pair, runsOn, latency}
 use Rattle.legal.specs.Shape.{Sound}
 use Rattle.machine.specs.Values.{placeOf, computed}
 use Rattle.machine.specs.Run.{Machine, iteration, late, lateEdge, holds, held}

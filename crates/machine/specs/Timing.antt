@@ -8,7 +8,8 @@ use native.Mathlib.Omega.{arith}
 use native.Mathlib.Nat.{add-mul, mul-comm}
 use borrow.Author.Tests.{eqb-true, ltb-true, eq-eqb, lt-ltb}
 use Rattle.lists.specs.Both.{and-both}
-use Rattle.legal.specs.Loop.{Loop, Pair, runsOn, latency, hold}
+use Rattle.form.specs.Hold.{hold}
+use Rattle.legal.specs.Loop.{Loop, Pair, runsOn, latency}
 use Rattle.legal.specs.Legal.{EdgeRule}
 use Rattle.legal.specs.Shape.{Sound}
 use Rattle.machine.specs.Run.{depth}

@@ -15,7 +15,8 @@ use Rattle.form.specs.declared.Form.{Form}
 use Rattle.form.specs.Places.{emptyForm}
 use Rattle.system.specs.Rounds.{asks, raise, raiseAll, raises, everyEdge, round, settleFrom, settledOf}
 use Rattle.system.specs.Turned.{topOf, turnedAt}
-use Rattle.legal.specs.Loop.{hold, graphOf, loopOf, pairOf}
+use Rattle.form.specs.Hold.{hold}
+use Rattle.legal.specs.Loop.{graphOf, loopOf, pairOf}
 use Rattle.legal.specs.Legal.{busy}
 use Rattle.legal.specs.Held as body
 use Rattle.legal.specs.Systems.{knots, knotted, lateness, limits, paces}

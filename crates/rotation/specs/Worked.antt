@@ -13,7 +13,8 @@ use Rattle.form.specs.declared.Operation.the-variants.{Add, Mul}
 use Rattle.form.specs.Places.{emptyForm, withCounts, withClass, withNode, withEdge}
 use Rattle.system.specs.Rounds.{asks, raise, raiseAll, raises, everyEdge, round, settleFrom, settledOf}
 use Rattle.system.specs.Turned.{topOf, turnedAt}
-use Rattle.legal.specs.Loop.{hold, graphOf, loopOf, pairOf}
+use Rattle.form.specs.Hold.{hold}
+use Rattle.legal.specs.Loop.{graphOf, loopOf, pairOf}
 use Rattle.legal.specs.Systems.{lateness, limits}
 use Rattle.fit.specs.Retimed.{retimings}
 use Rattle.reach.specs.Weight.{tight, spread, sweep, reach, reachedFrom, weight}

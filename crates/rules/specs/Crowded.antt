@@ -16,7 +16,8 @@ use Rattle.lists.specs.Pick.{pick, pick-true, pick-false}
 use Rattle.lists.specs.Quotient.{divided}
 use Rattle.lists.specs.Sums.{bit, sum-le}
 use Rattle.answer.specs.declared.Refusal.the-variants.{None, Units}
-use Rattle.legal.specs.Loop.{Loop, Pair, runsOn, hold}
+use Rattle.form.specs.Hold.{hold}
+use Rattle.legal.specs.Loop.{Loop, Pair, runsOn}
 use Rattle.legal.specs.Held.{lands, held, held-none, held-more}
 use Rattle.legal.specs.Legal.{busy}
 use Rattle.legal.specs.Shape.{Starting}

@@ -18,7 +18,8 @@ use Rattle.lists.specs.Sums.{sum-same}
 use Rattle.answer.specs.declared.Refusal.the-variants.{None, Units}
 use Rattle.form.specs.declared.Class.{Class}
 use Rattle.form.specs.Places.{noClass}
-use Rattle.legal.specs.Loop.{Loop, Pair, runsOn, hold}
+use Rattle.form.specs.Hold.{hold}
+use Rattle.legal.specs.Loop.{Loop, Pair, runsOn}
 use Rattle.legal.specs.Held.{held}
 use Rattle.legal.specs.Legal.{busy}
 use Rattle.legal.specs.Judging.{over, unitsOf}

@@ -1,7 +1,7 @@
 // The two rules of a schedule: every edge's head waits for its tail, and no step holds more of a class than its units.
 ghost use mathlib.Core.Path.{_≡_};
 ghost use Prim.Native.Nat.{_+_, _-_, _*_, _%_, _≤_, _<_};
-ghost use Rattle.legal.specs.Loop.{Loop, Pair, hold};
+ghost use Rattle.legal.specs.Loop.{Loop, Pair};
 ghost use Rattle.legal.specs.Judging.{brokenEdge, unitsOf};
 ghost use Rattle.tables.specs.Edges.{Ends, Told};
 ghost use Rattle.tables.specs.Times.{Sound, Timed};
@@ -10,6 +10,7 @@ ghost use Rattle.rules.specs.Busy.{heldOn, busyIn, StartsIn, Seated};
 ghost use Rattle.rules.specs.Lowest.{lowerSpot, FirstOf, Lowest};
 use answer::Refusal;
 use form::Class;
+use form::hold_of;
 use tables::Timetable;
 
 // A byte as a u16; the bound spares each use a proof.
@@ -54,16 +55,6 @@ pub fn broken_edge<'a>(
         left -= 1;
     }
     edges
-}
-
-// How many steps an operation holds its unit.
-pub fn hold_of(class: Class) -> u8
-    ensures { λ r. ⌜ r ≡ hold class ⌝ }
-{
-    if class.pipelined == 0 {
-        return class.latency;
-    }
-    1
 }
 
 // How many steps after `start` comes `step`, over the end of the body where it lies before.
