@@ -35,7 +35,7 @@ use Rattle.record.specs.Early.{read-early}
 use Rattle.floor.specs.declared.Part.{Part}
 use Rattle.floor.specs.declared.Part.the-variants as part
 use Rattle.floor.specs.declared.Floored.{Floored}
-use Rattle.floor.specs.Parts.{latencyPart, unitsParts, floorLength}
+use Rattle.floor.specs.Parts.{latencyPart, unitsPart, unitsParts, cyclePart, floorLength}
 use Rattle.floor.specs.Least.{enough, short-less, cycle-one, cycle-512}
 use Rattle.floor.specs.Tables.{Measured}
 use Rattle.floor.specs.Floor.{partNumber, partOf, floorRefusal, FloorCycle, FormFloored, floorRecord, RecordFloored}
@@ -57,24 +57,28 @@ latency-known g p t timed =
     ) in
     same ∙ ap (λ (n : ℕ). top (map (latencyOn g) (span 0 n))) (sym (timed .all-nodes))
 
-module _ (g : Loop) (a b class c inner floor : ℕ) (parts : Measured g a b class c) (is-inner : inner ≡ max b c) (is-floor : floor ≡ max a inner) where
-  -- the largest of the three is the floor
-  pub floor-is : floor ≡ floorLength g
+-- the larger of (a) and (b), and (c) beside it, is the floor
+pub floor-of : (g : Loop) (a b least floor : ℕ) → a ≡ latencyPart g → b ≡ top (map (unitsPart g) (span 0 (g .classes))) → least ≡ max a b → floor ≡ max least (cyclePart g) → floor ≡ floorLength g
+unfolding floorLength unitsParts
+floor-of g a b least floor is-a is-b is-least is-floor = omega arith
+
+module _ (g : Loop) (a b class floor : ℕ) (parts : Measured g a b class floor) where
+  -- what is not below the floor attains it
+  pub attains-latency : floor ≤ a → Attains g part.Latency
+  unfolding floorLength
+  attains-latency h = latency (omega (arith, parts .latency-is, parts .floor-is))
+
+  pub attains-units : a < floor → floor ≤ b → Attains g (part.Units class)
   unfolding floorLength unitsParts
-  floor-is = omega (arith, parts .latency-is, parts .units-is .most, parts .cycle-is)
+  attains-units l h =
+      let same : b ≡ floor = omega (arith, parts .units-is .most, parts .floor-is) in
+      let here = parts .units-is .here (omega arith) in
+      units class (λ z. omega (arith, parts .latency-is, parts .floor-is)) (here .0) (omega (arith, here .1, parts .floor-is)) (λ d m z. omega (arith, parts .units-is .before d m, parts .floor-is))
 
-  pub attains-latency : a ≡ floor → Attains g part.Latency
-  attains-latency e = latency (omega (arith, parts .latency-is, floor-is))
-
-  pub attains-units : a ≢ floor → b ≡ floor → Attains g (part.Units class)
-  attains-units n e =
-      let here = parts .units-is .here (omega (arith, parts .cycle-is, cycle-one g)) in
-      units class (λ z. n (omega (arith, parts .latency-is, floor-is))) (here .0) (omega (arith, here .1, floor-is)) (λ d l z. omega (arith, parts .units-is .before d l, floor-is))
-
-  pub attains-cycle : a ≢ floor → b ≢ floor → Attains g part.Cycle
+  pub attains-cycle : a < floor → b < floor → Attains g part.Cycle
   unfolding unitsParts
-  attains-cycle n m =
-      cycle-named g (λ z. n (omega (arith, parts .latency-is, floor-is))) (λ z. m (omega (arith, parts .units-is .most, floor-is)))
+  attains-cycle l m =
+      cycle-named g (λ z. omega (arith, parts .latency-is, parts .floor-is)) (λ z. omega (arith, parts .units-is .most, parts .floor-is))
 
 -- ---- a form
 

@@ -18,7 +18,7 @@ use Rattle.legal.specs.Shape.{Sound}
 use Rattle.floor.specs.Parts.{nodesOn, unitsPart, unitsParts}
 
 -- what fits on so many units in so many steps takes no more steps than these
-rounded-up : (n units steps : ℕ) → n ≤ steps * units → (n + (units - 1)) / units ≤ steps
+pub rounded-up : (n units steps : ℕ) → n ≤ steps * units → (n + (units - 1)) / units ≤ steps
 rounded-up n zero steps h = rw div-zero (omega arith)
 rounded-up n (suc k) steps h =
     let below : n + (suc k - 1) < suc steps * suc k = omega (arith, suc-mul steps (suc k)) in

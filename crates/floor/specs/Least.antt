@@ -124,6 +124,10 @@ module _ (g : Loop) where
           | no h ↦ both-ways cycle-enough (above-short (cyclePart g) es c (omega arith))
         ]
 
+    -- it is above any length that is not
+    pub over-short : (l : ℕ) → 1 ≤ l → enough l ≡ false → l < cyclePart g
+    over-short l one q = elim (decLe (cyclePart g) l) [ yes h ↦ both-ways (enough-more s (cyclePart g) l h cycle-enough) q | no h ↦ omega arith ]
+
   module _ (s : Sound g) where
     -- and it is the least such length
     pub cycle-least : (l : ℕ) → 1 ≤ l → ((es : List ℕ) → Cycle (g .graph) es → latencies g es ≤ l * sumOf (g .delay) es) → cyclePart g ≤ l

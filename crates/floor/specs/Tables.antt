@@ -12,7 +12,7 @@ use Rattle.legal.specs.Loop.{Loop, latency}
 use Rattle.legal.specs.Shape.{Sound}
 use Rattle.legal.specs.Systems.{knotted}
 use Rattle.tables.specs.Edges.{Ends, Told}
-use Rattle.floor.specs.Parts.{latencyPart, unitsPart, cyclePart}
+use Rattle.floor.specs.Parts.{latencyPart, unitsPart, floorLength}
 
 -- how many of the first n numbers of a table are x
 unfoldable pub howMany : List ℕ → ℕ → ℕ → ℕ
@@ -40,8 +40,8 @@ pub record Busy (g : Loop) (n part class : ℕ) : Type 0 where
   pub here : 0 < part → (class < n) × (unitsPart g class ≡ part)
   pub before : (d : ℕ) → d < class → unitsPart g d < part
 
--- the three parts, (b) with the lowest class that it is of
-pub record Measured (g : Loop) (latency units class cycle : ℕ) : Type 0 where
+-- parts (a) and (b), the latter with the lowest class that it is of, and the floor
+pub record Measured (g : Loop) (latency units class floor : ℕ) : Type 0 where
   pub latency-is : latency ≡ latencyPart g
   pub units-is : Busy g (g .classes) units class
-  pub cycle-is : cycle ≡ cyclePart g
+  pub floor-is : floor ≡ floorLength g

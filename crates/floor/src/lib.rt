@@ -45,12 +45,12 @@ struct Busiest {
     class: u8,
 }
 
-// The three parts, (b) with the lowest class that it is of.
+// Parts (a) and (b), the latter with the lowest class that it is of, and the floor.
 struct AllParts {
     latency: u16,
     units: u16,
     class: u8,
-    cycle: u16,
+    floor: u16,
 }
 
 // The part's number among the answers.
@@ -122,7 +122,7 @@ fn busy_steps(class: Class, on: u8) -> u16
 fn units_part(class: Class, on: u8) -> u16
     requires { ⌜ GoodClass class ⌝ }
     requires { ⌜ on ≤ 64 ⌝ }
-    ensures { λ r. ⌜ r ≡ (on * hold class + (class .units - 1)) / class .units ⌝ }
+    ensures { λ r. ⌜ (r ≡ (on * hold class + (class .units - 1)) / class .units) × (r ≤ 512) ⌝ }
 {
     let busy = busy_steps(class, on);
     let units = wide(class.units);
@@ -132,7 +132,7 @@ fn units_part(class: Class, on: u8) -> u16
 // The class that needs the most steps.
 fn busiest_class(times: Timetable) -> Busiest
     requires { ⌜ Sound times ⌝ }
-    ensures { λ r. ⌜ ((g : Loop) (p : Pair) → Timed g p times → Busy g (g .classes) (r .part) (r .class)) ⌝ }
+    ensures { λ r. ⌜ ((g : Loop) (p : Pair) → Timed g p times → Busy g (g .classes) (r .part) (r .class)) × (r .part ≤ 512) ⌝ }
 {
     let mut part: u16 = 0;
     let mut number: u8 = 0;
@@ -199,21 +199,21 @@ fn is_enough<'a>(
     result.settled
 }
 
-// The least length that is enough. Each turn halves the lengths left, 512 at first, so the system is settled 9 times, whatever the record.
-fn cycle_part<'a>(
+// The least length that is enough, where a length that is not is known. Each turn halves the lengths left, 512 at most.
+fn least_over<'a>(
     nodes: u8,
     edges: u16,
     from: &'a [u8; 256],
     to: &'a [u8; 256],
     delays: &'a [u8; 256],
     costs: &'a [u16; 256],
+    known: u16,
 ) -> u16
-    requires { ⌜ Edged nodes edges (now from) (now to) (now delays) ⌝ }
-    ensures { λ r. ⌜ ((g : Loop) → Paced g nodes edges (now (from .entry)) (now (to .entry)) (now (delays .entry)) (now (costs .entry)) → r ≡ cyclePart g) ⌝ }
+    requires { ⌜ Edged nodes edges (now from) (now to) (now delays) × (known ≤ 512) ⌝ }
+    ensures { λ r. ⌜ ((g : Loop) → Paced g nodes edges (now (from .entry)) (now (to .entry)) (now (delays .entry)) (now (costs .entry)) → enough g known ≡ false → r ≡ cyclePart g) ⌝ }
 {
-    // 0 or a length that is not enough
-    let mut short: u16 = 0;
-    // a length that is: 512 is for every loop without a knot
+    let mut short = known;
+    // a length that is enough: 512 is for every loop without a knot
     let mut long: u16 = 512;
     while short + 1 < long {
         let middle = (short + long) / 2;
@@ -224,6 +224,25 @@ fn cycle_part<'a>(
         }
     }
     long
+}
+
+// The larger of a length and (c). Mostly the length is enough, and the system is settled once.
+fn cycle_over<'a>(
+    nodes: u8,
+    edges: u16,
+    from: &'a [u8; 256],
+    to: &'a [u8; 256],
+    delays: &'a [u8; 256],
+    costs: &'a [u16; 256],
+    length: u16,
+) -> u16
+    requires { ⌜ Edged nodes edges (now from) (now to) (now delays) × (length ≤ 512) ⌝ }
+    ensures { λ r. ⌜ ((g : Loop) → Paced g nodes edges (now (from .entry)) (now (to .entry)) (now (delays .entry)) (now (costs .entry)) → 1 ≤ length → r ≡ max length (cyclePart g)) ⌝ }
+{
+    if is_enough(nodes, edges, from, to, delays, costs, length) {
+        return length;
+    }
+    least_over(nodes, edges, from, to, delays, costs, length)
 }
 
 // A cycle whose latency sum is above the length times its delay sum.
@@ -256,7 +275,7 @@ fn alone(refusal: Refusal, floor: u16, part: Part) -> Floored
     }
 }
 
-// The three parts of a loop without a knot.
+// Parts (a) and (b) of a loop without a knot, and the floor: the larger of them where that is enough for every cycle.
 fn parts_of<'a>(
     edges: u16,
     from: &'a [u8; 256],
@@ -266,15 +285,16 @@ fn parts_of<'a>(
     times: Timetable,
 ) -> AllParts
     requires { ⌜ Edged (times .nodes) edges (now from) (now to) (now delays) × Sound times ⌝ }
-    ensures { λ r. ⌜ ((g : Loop) (p : Pair) → Paced g (times .nodes) edges (now (from .entry)) (now (to .entry)) (now (delays .entry)) (now (costs .entry)) → Timed g p times → Measured g (r .latency) (r .units) (r .class) (r .cycle)) ⌝ }
+    ensures { λ r. ⌜ ((g : Loop) (p : Pair) → Paced g (times .nodes) edges (now (from .entry)) (now (to .entry)) (now (delays .entry)) (now (costs .entry)) → Timed g p times → Measured g (r .latency) (r .units) (r .class) (r .floor)) ⌝ }
 {
     let latency = wide(tables::largest(&times.latency, times.nodes));
     let busiest = busiest_class(times);
+    let least = larger(latency, busiest.part);
     AllParts {
         latency,
         units: busiest.part,
         class: busiest.class,
-        cycle: cycle_part(times.nodes, edges, from, to, delays, costs),
+        floor: cycle_over(times.nodes, edges, from, to, delays, costs, least),
     }
 }
 
@@ -291,12 +311,11 @@ fn free_floor<'a>(
 {
     let costs = costs_of(edges, from, &times.latency);
     let parts = parts_of(edges, from, to, delays, &costs, times);
-    let others = larger(parts.units, parts.cycle);
-    let floor = larger(parts.latency, others);
-    if others <= parts.latency {
+    let floor = parts.floor;
+    if floor <= parts.latency {
         return alone(Refusal::None, floor, Part::Latency);
     }
-    if parts.cycle <= parts.units {
+    if floor <= parts.units {
         return alone(Refusal::None, floor, Part::Units(parts.class as u32));
     }
     let short = floor - 1;

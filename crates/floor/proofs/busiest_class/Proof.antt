@@ -13,13 +13,13 @@ use Rattle.floor.proofs.busiest_class.Statement.{statement}
 use Rattle.floor.proofs.busiest_class.Tie as tie
 
 abbrev Inv-loop : tie.InvT-loop
-Inv-loop times part₀ number₀ c₀ c-end part number c = (c ≤ times .classes) × ((g : Loop) (p : Pair) → Timed g p times → Busy g c part number)
+Inv-loop times part₀ number₀ c₀ c-end part number c = (c ≤ times .classes) × ((g : Loop) (p : Pair) → Timed g p times → Busy g c part number) × (part ≤ 512)
 
 abbrev μ-loop : tie.MeasureT-loop
 μ-loop times part₀ number₀ c₀ c-end part number c = times .classes - c
 
 loop-holds : tie.Need-loop-holds Inv-loop μ-loop
-loop-holds c = (search needs, λ g p timed. busy-none g)
+loop-holds c = (search needs, λ g p timed. busy-none g, omega arith)
 
 cast-class : tie.Need-cast-class Inv-loop μ-loop
 cast-class c = search needs
@@ -48,18 +48,22 @@ loop-again c =
     let t = l .before .args .t1 in (
       search needs,
       λ g p timed.
-          let is = part-is g p t timed (l .loop .c) _ _ (c .before .before .nodes-on .ensures .0) (c .before .units-part .ensures) in
+          let is = part-is g p t timed (l .loop .c) _ _ (c .before .before .nodes-on .ensures .0) (c .before .units-part .ensures .0) in
           ⊎-elim
           (λ w. rw (w .1, w .2) (busy-here g (l .loop .c) _ _ _ is (l .loop .inv .1 g p timed) (omega (arith, w .0 .taken))))
           (λ w. rw (w .1, w .2) (busy-past g (l .loop .c) _ _ _ is (l .loop .inv .1 g p timed) (omega (arith, w .0 .left))))
           (c .if1 .came),
+      ⊎-elim (λ w. omega (arith, w .1, c .before .units-part .ensures .1)) (λ w. omega (arith, w .1)) (c .if1 .came),
     )
 
 returns : tie.Need-returns Inv-loop μ-loop
-returns c = λ g p timed.
-    let l = c .before in
-    let e : l .loop .c ≡ g .classes = omega (arith, timed .all-classes) in
-    subst (λ (n : ℕ). Busy g n (l .loop .part) (l .loop .number)) e (l .loop .inv .1 g p timed)
+returns c =
+    let l = c .before in (
+      λ g p timed.
+          let e : l .loop .c ≡ g .classes = omega (arith, timed .all-classes) in
+          subst (λ (n : ℕ). Busy g n (l .loop .part) (l .loop .number)) e (l .loop .inv .1 g p timed),
+      l .loop .inv .2,
+    )
 
 pub busiest-class-spec : {M : Type 1} → statement M
 busiest-class-spec =

@@ -1,6 +1,8 @@
 -- `floor::units_part` meets its contract.
 -- Assumes nothing.
+use native.Mathlib.Omega.{arith}
 use borrow.Author.Needs.{needs}
+use Rattle.floor.specs.Busy.{rounded-up}
 use Rattle.floor.proofs.units_part.Statement.{statement}
 use Rattle.floor.proofs.units_part.Tie as tie
 
@@ -20,7 +22,10 @@ div-result : tie.Need-div-result
 div-result c = search needs
 
 returns : tie.Need-returns
-returns c = rw (c .before .busy-steps .ensures .0, c .wide .ensures .0)
+returns c =
+    let b = c .before .busy-steps in
+    let n = c .wide in
+    (rw (b .ensures .0, n .ensures .0), rounded-up (b .result) (n .result) 512 (omega (arith, b .ensures .1, n .ensures .0, c .before .before .pre .0 .units)))
 
 pub units-part-spec : {M : Type 1} → statement M
 units-part-spec =
