@@ -11,9 +11,9 @@ use lib.ListN.{length, getD, length-append}
 use borrow.Author.Needs.{needs}
 use borrow.Author.Tests.{le-ltb, lt-ltb, le-leb, lt-leb, eq-eqb, ne-eqb}
 use Rattle.lists.specs.Pick.{pick, pick-true, pick-false}
-use Rattle.writer.specs.Layout.{rows}
-use Rattle.writer.specs.Laid.{Laid}
-use Rattle.writer.proofs.Laws.{nothing, both, row-more}
+use Rattle.laid.specs.Laid.{Laid}
+use Rattle.laid.specs.Rows.{rows}
+use Rattle.laid.specs.Laws.{nothing, both, row-more}
 use Rattle.text.specs.Decimal.{decimal, newline}
 use Rattle.listing.specs.Lines.{retimingText}
 use Rattle.form.specs.declared.Form.{Form}

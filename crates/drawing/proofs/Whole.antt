@@ -12,6 +12,9 @@ use borrow.Author.Tests.{le-ltb, lt-ltb}
 use Rattle.lists.specs.Pick.{pick-true, pick-false}
 use Rattle.lists.specs.Filled.{filled-at}
 use Rattle.answer.specs.Refused.{fine}
+use Rattle.laid.specs.Laid.{Laid}
+use Rattle.laid.specs.Rows.{rows}
+use Rattle.laid.specs.Laws.{both, same-long}
 use Rattle.form.specs.declared.Form.{Form}
 use Rattle.form.specs.Places.{nodeOf, startOf, noClass}
 use Rattle.form.specs.Ranges.{WellFormed}
@@ -19,9 +22,6 @@ use Rattle.field.specs.Number.{Bytes}
 use Rattle.reader.specs.declared.Record.{Record}
 use Rattle.reader.specs.Reading.{readForm}
 use Rattle.record.specs.Read.{read-well-formed}
-use Rattle.writer.specs.Layout.{rows}
-use Rattle.writer.specs.Laid.{Laid}
-use Rattle.writer.proofs.Laws.{both, same-long}
 use Rattle.text.specs.Decimal.{decimal, newline}
 use Rattle.tables.specs.declared.Timetable.{Timetable}
 use Rattle.tables.specs.Times.{timesOf, Timed, timed-form}

@@ -14,14 +14,14 @@ use Rattle.lists.specs.Pick.{pick, pick-true, pick-false, pick-ind}
 use Rattle.lists.specs.Filled.{filled, filled-at}
 use Rattle.answer.specs.Refused.{fine}
 use Rattle.answer.specs.declared.Refusal.the-variants.{None, Room}
+use Rattle.laid.specs.Laid.{Laid}
+use Rattle.laid.specs.Rows.{rows}
+use Rattle.laid.specs.Laws.{nothing, both, row-more, same-long}
 use Rattle.form.specs.declared.Form.{Form}
 use Rattle.form.specs.Places.{startOf, retimingOf}
 use Rattle.tables.specs.declared.Timetable.{Timetable}
 use Rattle.tables.specs.Most.{mostOf}
 use Rattle.tables.specs.Times.{timesOf}
-use Rattle.writer.specs.Layout.{rows}
-use Rattle.writer.specs.Laid.{Laid}
-use Rattle.writer.proofs.Laws.{nothing, both, row-more, same-long}
 use Rattle.listing.specs.declared.Listed.{Listed}
 use Rattle.listing.specs.declared.View.{View}
 use Rattle.text.specs.Decimal.{decimal, newline}

@@ -11,10 +11,10 @@ use Rattle.lists.specs.Fold.{top}
 use Rattle.answer.specs.Refused.{numberOf, fine}
 use Rattle.answer.specs.declared.Refusal.{Refusal}
 use Rattle.answer.specs.declared.Refusal.the-variants.{None, Room}
+use Rattle.laid.specs.Rows.{rows}
 use Rattle.form.specs.declared.Form.{Form}
 use Rattle.form.specs.Places.{startOf, retimingOf}
 use Rattle.reader.specs.Reading.{readForm}
-use Rattle.writer.specs.Layout.{rows}
 use Rattle.legal.specs.Loop.{loopOf}
 use Rattle.judge.specs.Judgement.{judgeRecord}
 use Rattle.floor.specs.Parts.{floorLength}

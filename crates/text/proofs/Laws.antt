@@ -10,8 +10,8 @@ use lib.Seq.{set-out, take-suc, take-all}
 use borrow.Author.Needs.{needs}
 use borrow.Author.Tests.{le-ltb, lt-ltb, eq-eqb, ne-eqb}
 use Rattle.lists.specs.Pick.{pick-true, pick-false}
-use Rattle.writer.specs.Laid.{Laid}
-use Rattle.writer.proofs.Laws.{both}
+use Rattle.laid.specs.Laid.{Laid}
+use Rattle.laid.specs.Laws.{both}
 use Rattle.text.specs.Decimal.{decimal}
 
 pub ruleset tests = (needs, le-ltb, lt-ltb, eq-eqb, ne-eqb)

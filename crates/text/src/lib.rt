@@ -4,7 +4,7 @@ ghost use mathlib.Core.Path.{_≡_};
 ghost use mathlib.Core.List.{[], _∷_, _++_};
 ghost use Prim.Native.Nat.{_+_, _≤_, _<_};
 ghost use lib.ListN.{length};
-ghost use Rattle.writer.specs.Laid.{Laid};
+ghost use Rattle.laid.specs.Laid.{Laid};
 ghost use Rattle.text.specs.Decimal.{decimal};
 
 // One byte, and the place past it.
