@@ -32,7 +32,7 @@ use Rattle.legal.specs.Loop.{hold, graphOf, loopOf, pairOf}
 use Rattle.legal.specs.Legal.{busy, UnitRule}
 use Rattle.legal.specs.Busy.{hold-some, spans, busy-plain}
 use Rattle.legal.specs.Shape.{sound-form, placed-form, plain-form}
-use Rattle.listing.specs.Lines.{retimingText}
+use Rattle.text.specs.Words.{retimingText}
 use Rattle.drawing.specs.Words.{
   classWord,
   latencyWord,

@@ -16,7 +16,7 @@ use Rattle.reader.specs.Reading.{readForm}
 use Rattle.text.specs.Decimal.{decimal, newline}
 use Rattle.legal.specs.Loop.{hold, loopOf, pairOf}
 use Rattle.legal.specs.Legal.{busy}
-use Rattle.listing.specs.Lines.{retimingText}
+use Rattle.text.specs.Words.{retimingText}
 use Rattle.drawing.specs.Words.{
   classWord,
   latencyWord,

@@ -12,20 +12,20 @@ ghost use Rattle.laid.specs.Rows.{rows};
 ghost use Rattle.form.specs.declared.Form.{Form};
 ghost use Rattle.form.specs.Places.{noClass, classOf};
 ghost use Rattle.text.specs.Decimal.{decimal};
-ghost use Rattle.listing.specs.Lines.{retimingText};
+ghost use Rattle.text.specs.Words.{retimingText};
 ghost use Rattle.tables.specs.Times.{timesOf};
 ghost use Rattle.drawing.specs.Words.{freeWord};
 ghost use Rattle.drawing.specs.Table.{blanks, right, classLine, headText, startPlace, heldPlace, placesText, rowText, tableText, drawn, drawnBuffer};
 ghost use Rattle.rules.specs.Busy.{StartsIn};
 ghost use Rattle.drawing.specs.Noted.{Noted, Narrow, Tabled};
 use form::Class;
-use listing::put_retiming;
 use rules::busy_in;
 use rules::hold_of;
 use tables::Timetable;
 use text::put_byte;
 use text::put_field;
 use text::put_number;
+use text::put_retiming;
 use text::put_word;
 
 // So many blanks.

@@ -20,9 +20,9 @@ use Rattle.judge.specs.Judgement.{judgeRecord}
 use Rattle.floor.specs.Parts.{floorLength}
 use Rattle.listing.specs.declared.Listed.{Listed}
 use Rattle.text.specs.Decimal.{decimal, newline}
+use Rattle.text.specs.Words.{refusedWord, retimingText}
 use Rattle.listing.specs.Text.{
   markLine,
-  refusedWord,
   nodesWord,
   edgesWord,
   lengthWord,
@@ -51,10 +51,6 @@ countsLine nodes edges steps depth floor =
     ++ (lengthWord ++ (decimal steps
     ++ (depthWord ++ (decimal depth
     ++ (floorWord ++ (decimal floor ++ (verdict steps floor ++ newline))))))))))
-
--- "+r", nothing where r is 0
-unfoldable pub retimingText : ℕ → List ℕ
-retimingText r = pick (eqb r 0) [] (43 ∷ decimal r)
 
 -- " -" where none does
 unfoldable pub orIdle : List ℕ → List ℕ

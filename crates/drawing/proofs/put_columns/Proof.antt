@@ -5,8 +5,7 @@ use Prim.Native.Nat.{_≤_, _+_, _-_, _*_}
 use native.Mathlib.Omega.{arith}
 use Rattle.laid.specs.Laid.{Laid}
 use Rattle.laid.specs.Rows.{rows}
-use Rattle.laid.specs.Laws.{nothing, row-more}
-use Rattle.listing.proofs.Laws.{rows-whole}
+use Rattle.laid.specs.Laws.{nothing, row-more, rows-whole}
 use lib.ListN.{length, getD}
 use mathlib.Core.Path.{ap}
 use Rattle.form.specs.declared.Form.{Form}

@@ -2,7 +2,7 @@
 -- Assumes nothing.
 use borrow.Author.Needs.{needs}
 use Rattle.laid.specs.Laws.{both}
-use Rattle.listing.specs.Text.{refusedWord}
+use Rattle.text.specs.Words.{refusedWord}
 use Rattle.listing.proofs.put_refused.Statement.{statement}
 use Rattle.listing.proofs.put_refused.Tie as tie
 
