@@ -11,7 +11,7 @@ use Rattle.lists.specs.First.{firstFrom}
 use Rattle.answer.specs.Refused.{fine}
 use Rattle.answer.specs.declared.Refusal.the-variants.{None}
 use Rattle.legal.specs.Loop.{plain, Pair, hold}
-use Rattle.list_rule.specs.Worked.{small}
+use Rattle.legal.specs.Small.{small}
 use Rattle.machine.specs.Values.{plus, minus, times, difference, applied, edgesInto, operandBy, computedBy}
 use Rattle.machine.specs.Run.{depth, issues, late, lateEdge, holds, held, issue, visit, stepOf, runSteps, ran, cleared, runOf}
 
