@@ -1,27 +1,20 @@
--- Runs of stores into a list, one after the other, and those of a cycle's edges.
+-- The stores of an answer: a run that a function fills, and a cycle's edges.
 -- Assumes nothing.
 use mathlib.Core.Path.{_≡_, sym, _∙_}
-use mathlib.Core.List.{List, [], _∷_, _++_, map}
-use Prim.Native.Nat.{ℕ, suc, _+_, _≤_}
-use native.Mathlib.Nat.{add-zero, add-suc, suc-add, zero-add}
+use mathlib.Core.List.{List, [], _∷_, map}
+use Prim.Native.Nat.{ℕ, _+_}
+use native.Mathlib.Nat.{zero-add}
 use native.Mathlib.Numerals.{add-one}
 use native.Mathlib.Omega.{arith}
-use lib.ListN.{length, take, length-map}
-use lib.Seq.{sets, sets-eq, length-sets, take-append-seam, take-all}
+use lib.ListN.{length, length-map}
+use lib.Seq.{sets, length-sets, take-all}
 use Rattle.lists.specs.Span.{span, span-length}
 use Rattle.lists.specs.Mapped.{map-snoc}
+use Rattle.lists.specs.Stored.{sets-append, sets-front}
 use Rattle.answer.specs.declared.Cycle.{Cycle}
 use Rattle.answer.specs.declared.Refusal.{Refusal}
 use Rattle.answer.specs.declared.Details.{Details}
 use Rattle.answer.specs.Outcome.{cycleEdge, cycleList, outcomeList, toldOf, answerList}
-
-pub sets-append : (vs ws l : List ℕ) (i : ℕ) → sets l i (vs ++ ws) ≡ sets (sets l i vs) (i + length vs) ws
-sets-append [] ws l i = rw add-zero
-sets-append (v ∷ vs) ws l i = rw (add-suc, ← suc-add) (sets-append vs ws _ (suc i))
-
--- the front of a list is what was stored there
-pub sets-front : (l vs : List ℕ) → length vs ≤ length l → take (length vs) (sets l 0 vs) ≡ vs
-sets-front l vs h = rw (sets-eq vs l 0 (rw zero-add h)) (take-append-seam vs _)
 
 -- a list as long as the one that it is stored into
 pub sets-whole : (l vs : List ℕ) → length vs ≡ length l → sets l 0 vs ≡ vs

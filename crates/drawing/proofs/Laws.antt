@@ -1,21 +1,21 @@
 -- Places, rows and the table laid one after the other.
 -- Assumes nothing.
-use mathlib.Core.Path.{_≡_, refl, sym, ap, _∙_}
+use mathlib.Core.Path.{_≡_, sym, ap, _∙_}
 use mathlib.Core.List.{List, [], _∷_, _++_}
 use mathlib.Core.Bool.{Bool, true, false, _&&_}
 use mathlib.Core.Logic.{_≢_}
-use Prim.Native.Nat.{ℕ, zero, suc, _+_, _*_, _-_, _≤_, _<_}
+use Prim.Native.Nat.{ℕ, _+_, _*_, _-_, _≤_, _<_}
 use native.Mathlib.Omega.{arith}
 use lib.Dec.{eqb, leb, ltb}
 use lib.ListN.{length, getD, length-append}
 use borrow.Author.Needs.{needs}
 use borrow.Author.Tests.{le-ltb, lt-ltb, le-leb, lt-leb, eq-eqb, ne-eqb}
 use Rattle.lists.specs.Pick.{pick, pick-true, pick-false}
-use Rattle.writer.specs.Layout.{rows}
-use Rattle.writer.specs.Laid.{Laid}
-use Rattle.writer.proofs.Laws.{nothing, both, row-more}
+use Rattle.laid.specs.Laid.{Laid}
+use Rattle.laid.specs.Rows.{rows}
+use Rattle.laid.specs.Laws.{nothing, both, row-more, rows-same}
 use Rattle.text.specs.Decimal.{decimal, newline}
-use Rattle.listing.specs.Lines.{retimingText}
+use Rattle.text.specs.Words.{retimingText}
 use Rattle.form.specs.declared.Form.{Form}
 use Rattle.form.specs.declared.Class.{Class}
 use Rattle.form.specs.Places.{classOf, nodeOf, startOf, retimingOf}
@@ -119,12 +119,6 @@ pub start-more : (q c : ℕ) (kind start retiming l : List ℕ) (at : ℕ) (m o 
     → k ≡ getD kind i 0 → s ≡ getD start i 0 → r ≡ getD retiming i 0
     → Laid l at (rows (λ v. startPlace q c v (getD kind v 0) (getD start v 0) (getD retiming v 0)) (i + 1)) o g
 start-more q c kind start retiming l at m o i e g k s r x y is-k is-s is-r = row-more l at _ i m o e g x (rw (is-k, is-s, is-r) at y)
-
--- rows that are equal one by one
-pub rows-same : (r s : ℕ → List ℕ) (n : ℕ) → ((v : ℕ) → v < n → r v ≡ s v) → rows r n ≡ rows s n
-unfolding rows
-rows-same r s zero h = refl
-rows-same r s (suc n) h = rw (rows-same r s n (λ v l. h v (omega arith)), h n (omega arith))
 
 module _ (f : Form) (steps nodes : ℕ) (kind start retiming : List ℕ) (t : Noted f steps nodes kind start retiming) (q c : ℕ) where
   starts-same : rows (λ v. startPlace q c v (getD kind v 0) (getD start v 0) (getD retiming v 0)) nodes ≡ rows (λ v. startPlace q c v (nodeOf f v .class) (startOf f v) (retimingOf f v)) (f .nodes)

@@ -12,16 +12,13 @@ use borrow.Author.Tests.{le-ltb, lt-ltb}
 use Rattle.lists.specs.Pick.{pick-true, pick-false}
 use Rattle.lists.specs.Filled.{filled-at}
 use Rattle.answer.specs.Refused.{fine}
+use Rattle.laid.specs.Laid.{Laid}
+use Rattle.laid.specs.Rows.{rows}
+use Rattle.laid.specs.Laws.{both, same-long}
 use Rattle.form.specs.declared.Form.{Form}
 use Rattle.form.specs.Places.{nodeOf, startOf, noClass}
-use Rattle.form.specs.Ranges.{WellFormed}
-use Rattle.field.specs.Number.{Bytes}
 use Rattle.reader.specs.declared.Record.{Record}
 use Rattle.reader.specs.Reading.{readForm}
-use Rattle.record.specs.Read.{read-well-formed}
-use Rattle.writer.specs.Layout.{rows}
-use Rattle.writer.specs.Laid.{Laid}
-use Rattle.writer.proofs.Laws.{both, same-long}
 use Rattle.text.specs.Decimal.{decimal, newline}
 use Rattle.tables.specs.declared.Timetable.{Timetable}
 use Rattle.tables.specs.Times.{timesOf, Timed, timed-form}
@@ -99,9 +96,6 @@ empty [] h = refl
 empty (x ∷ xs) h = absurd (omega arith)
 
 module _ (s : List ℕ) (r : Record) (back : r ≡ readForm s) where
-  pub read-good : Bytes s → fine (r .refusal) ≡ true → WellFormed (r .form)
-  read-good b f = rw back (read-well-formed s b (rw back at f))
-
   no-drawing : fine (r .refusal) ≡ false → drawingOf s ≡ []
   unfolding drawingOf
   no-drawing h = pick-false _ _ _ (rw (← back) h)

@@ -17,6 +17,7 @@ use Rattle.lists.specs.Count.{count-last}
 use Rattle.lists.specs.Sums.{bit}
 use Rattle.answer.specs.Refused.{fine}
 use Rattle.answer.specs.declared.Refusal.the-variants.{None}
+use Rattle.laid.specs.Rows.{rows}
 use Rattle.form.specs.declared.Form.{Form}
 use Rattle.form.specs.declared.Class.{Class}
 use Rattle.field.specs.Number.{Bytes}
@@ -26,14 +27,13 @@ use Rattle.legal.specs.Judging.{judgeOf}
 use Rattle.legal.specs.Judged.{judge-accepts}
 use Rattle.form.specs.Places.{classOf, nodeOf, startOf, retimingOf}
 use Rattle.form.specs.Ranges.{GoodClass, WellFormed}
-use Rattle.writer.specs.Layout.{rows}
 use Rattle.text.specs.Decimal.{decimal, newline}
 use Rattle.form.specs.Hold.{hold}
 use Rattle.legal.specs.Loop.{graphOf, loopOf, pairOf}
 use Rattle.legal.specs.Legal.{busy, UnitRule}
 use Rattle.legal.specs.Busy.{hold-some, spans, busy-plain}
 use Rattle.legal.specs.Shape.{sound-form, placed-form, plain-form}
-use Rattle.listing.specs.Lines.{retimingText}
+use Rattle.text.specs.Words.{retimingText}
 use Rattle.drawing.specs.Words.{
   classWord,
   latencyWord,

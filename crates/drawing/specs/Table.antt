@@ -8,16 +8,16 @@ use lib.ListN.{length}
 use lib.Seq.{sets}
 use Rattle.lists.specs.Pick.{pick}
 use Rattle.answer.specs.Refused.{fine}
+use Rattle.laid.specs.Rows.{rows}
 use Rattle.form.specs.declared.Form.{Form}
 use Rattle.form.specs.declared.Class.{Class}
 use Rattle.form.specs.Places.{classOf, nodeOf, startOf, retimingOf}
 use Rattle.reader.specs.Reading.{readForm}
-use Rattle.writer.specs.Layout.{rows}
 use Rattle.text.specs.Decimal.{decimal, newline}
 use Rattle.form.specs.Hold.{hold}
 use Rattle.legal.specs.Loop.{loopOf, pairOf}
 use Rattle.legal.specs.Legal.{busy}
-use Rattle.listing.specs.Lines.{retimingText}
+use Rattle.text.specs.Words.{retimingText}
 use Rattle.drawing.specs.Words.{
   classWord,
   latencyWord,

@@ -17,7 +17,6 @@ use Rattle.answer.specs.declared.Cycle.{Cycle}
 use Rattle.answer.specs.declared.Refusal.{Refusal}
 use Rattle.answer.specs.declared.Refusal.the-variants.{None, Bare, Knot, NoRetiming}
 use Rattle.form.specs.declared.Form.{Form}
-use Rattle.form.specs.Ranges.{WellFormed}
 use Rattle.field.specs.Number.{Bytes}
 use Rattle.reader.specs.declared.Record.{Record}
 use Rattle.reader.specs.Reading.{readForm}
@@ -134,10 +133,6 @@ module _ (s out : List ℕ) where
     module _ (bytes : Bytes s) (e : fine (x .refusal) ≡ true) where
       read-fine : fine (readForm s .refusal) ≡ true
       read-fine = ap (λ (r : Record). fine (r .refusal)) (sym back) ∙ e
-
-      -- a form that is read is well-formed
-      pub form-good : WellFormed (x .form)
-      form-good = rw back (read-well-formed s bytes read-fine)
 
       module _ (y : Plan) (planned : Planned (x .form) y) where
         plan : Planned (readForm s .form) y

@@ -18,10 +18,8 @@ use Rattle.answer.specs.declared.Cycle.{Cycle}
 use Rattle.answer.specs.declared.Refusal.the-variants as refusal
 use Rattle.form.specs.declared.Form.{Form}
 use Rattle.form.specs.Ranges.{WellFormed}
-use Rattle.field.specs.Number.{Bytes}
 use Rattle.reader.specs.declared.Record.{Record}
 use Rattle.reader.specs.Reading.{readForm}
-use Rattle.record.specs.Read.{read-well-formed}
 use Rattle.system.specs.System.{Losing}
 use Rattle.legal.specs.Loop.{Loop, Pair, loopOf, latency as latencyOn}
 use Rattle.legal.specs.Systems.{knotted, paces}
@@ -158,9 +156,6 @@ floored-knot f c found l = record {
 -- ---- a record
 
 module _ (s : List ℕ) (r : Record) (back : r ≡ readForm s) where
-  pub read-good : Bytes s → fine (r .refusal) ≡ true → WellFormed (r .form)
-  read-good b f = rw back (read-well-formed s b (rw back at f))
-
   module _ (j : Floored) where
     pub record-refused : fine (r .refusal) ≡ false → (j .refusal ≡ r .refusal) × (j .floor ≡ 0) × (j .part ≡ part.None) × (j .cycle ≡ noCycle) → RecordFloored s j
     unfolding floorRecord

@@ -15,11 +15,8 @@ use Rattle.answer.specs.declared.Cycle.{Cycle}
 use Rattle.answer.specs.declared.Refusal.{Refusal}
 use Rattle.answer.specs.declared.Refusal.the-variants.{Bare, Knot, Dependence}
 use Rattle.form.specs.declared.Form.{Form}
-use Rattle.form.specs.Ranges.{WellFormed}
-use Rattle.field.specs.Number.{Bytes}
 use Rattle.reader.specs.declared.Record.{Record}
 use Rattle.reader.specs.Reading.{readForm}
-use Rattle.record.specs.Read.{read-well-formed}
 use Rattle.record.specs.Early.{read-early}
 use Rattle.legal.specs.Loop.{Loop, Pair, loopOf, pairOf}
 use Rattle.legal.specs.Systems.{knotted}
@@ -81,9 +78,6 @@ judged-knot f some c found l = record {
 -- ---- a record
 
 module _ (s : List ℕ) (r : Record) (back : r ≡ readForm s) where
-  pub read-good : Bytes s → fine (r .refusal) ≡ true → WellFormed (r .form)
-  read-good b f = rw back (read-well-formed s b (rw back at f))
-
   module _ (j : Judged) where
     pub record-refused : fine (r .refusal) ≡ false → j .refusal ≡ r .refusal → j .cycle ≡ noCycle → RecordJudgement s j
     unfolding judgeRecord

@@ -1,4 +1,5 @@
 pub mod Loop
+pub mod Small
 pub mod Held
 pub mod Columns
 pub mod Legal

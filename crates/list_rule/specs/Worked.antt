@@ -7,27 +7,11 @@ use lib.ListN.{getD, take, replicate, set}
 use Rattle.lists.specs.Pick.{pick}
 use Rattle.lists.specs.Span.{span}
 use Rattle.lists.specs.Fold.{count, fold, top}
-use Rattle.form.specs.declared.Operation.the-variants.{Add, Mul}
-use Rattle.form.specs.Places.{noClass, noNode}
 use Rattle.form.specs.Hold.{hold}
-use Rattle.legal.specs.Loop.{Loop}
+use Rattle.legal.specs.Small.{small}
 use Rattle.reach.specs.Weight.{tight, spread, sweep, reach, reachedFrom, weight}
 use Rattle.list_rule.specs.Order.{insert, orderOf}
 use Rattle.list_rule.specs.Rule.{uses, inUse, free, blocks, ready, place, fillStep, allPlaced, fillFrom, listRule, lengthOf}
-
-unfoldable pub small : Loop
-small = record {
-  graph = record { nodes = 3; edges = 3; tail = λ e. getD (0 ∷ 1 ∷ 2 ∷ []) e 0; head = λ e. getD (1 ∷ 2 ∷ 0 ∷ []) e 0 };
-  delay = λ e. getD (0 ∷ 0 ∷ 2 ∷ []) e 0;
-  classes = 2;
-  class = λ c.
-      getD (record { latency = 1; units = 1; pipelined = 0 } ∷ record { latency = 2; units = 1; pipelined = 0 } ∷ []) c
-      noClass;
-  node = λ v.
-      getD (record { class = 1; operation = Mul 3 } ∷ record { class = 0; operation = Add 1 } ∷ record { class = 0; operation = Add 0 } ∷ [])
-      v
-      noNode;
-}
 
 -- starts and length of the list rule, from the starts that stay, under the retimings
 unfoldable pub placed : List ℕ → List ℕ → List ℕ

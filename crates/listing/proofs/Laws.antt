@@ -3,7 +3,7 @@
 use mathlib.Core.Path.{_≡_, refl, sym, ap, _∙_}
 use mathlib.Core.List.{List, [], _∷_, _++_, append-assoc}
 use mathlib.Core.Logic.{_≢_}
-use Prim.Native.Nat.{ℕ, zero, suc, _+_, _≤_, _<_}
+use Prim.Native.Nat.{ℕ, _+_, _≤_, _<_}
 use native.Mathlib.Nat.{zero-add}
 use native.Mathlib.Omega.{arith}
 use lib.Dec.{eqb, ltb}
@@ -14,37 +14,25 @@ use Rattle.lists.specs.Pick.{pick, pick-true, pick-false, pick-ind}
 use Rattle.lists.specs.Filled.{filled, filled-at}
 use Rattle.answer.specs.Refused.{fine}
 use Rattle.answer.specs.declared.Refusal.the-variants.{None, Room}
+use Rattle.laid.specs.Laid.{Laid}
+use Rattle.laid.specs.Rows.{rows}
+use Rattle.laid.specs.Laws.{nothing, both, row-more, rows-same, same-long}
 use Rattle.form.specs.declared.Form.{Form}
 use Rattle.form.specs.Places.{startOf, retimingOf}
 use Rattle.tables.specs.declared.Timetable.{Timetable}
 use Rattle.tables.specs.Most.{mostOf}
 use Rattle.tables.specs.Times.{timesOf}
-use Rattle.writer.specs.Layout.{rows}
-use Rattle.writer.specs.Laid.{Laid}
-use Rattle.writer.proofs.Laws.{nothing, both, row-more, same-long}
 use Rattle.listing.specs.declared.Listed.{Listed}
 use Rattle.listing.specs.declared.View.{View}
 use Rattle.text.specs.Decimal.{decimal, newline}
-use Rattle.listing.specs.Text.{markLine, depthWord, floorWord, shortestWord, openWord, refusedWord}
-use Rattle.listing.specs.Lines.{cell, depthOf, retimingText, nodeText, nodesText, orIdle, stepLine, verdict, countsLine, formLines, refusedLine, listingOf, listed, listedBuffer}
+use Rattle.text.specs.Words.{refusedWord, retimingText}
+use Rattle.listing.specs.Text.{markLine, depthWord, floorWord, shortestWord, openWord}
+use Rattle.listing.specs.Lines.{cell, depthOf, nodeText, nodesText, orIdle, stepLine, verdict, countsLine, formLines, refusedLine, listingOf, listed, listedBuffer}
 use Rattle.listing.specs.Shown.{Shown, sizesText, Viewed, viewText}
 
 pub ruleset tests = (needs, le-ltb, lt-ltb, eq-eqb, ne-eqb)
 
--- rows up to the last
-pub rows-whole : (l : List ℕ) (at : ℕ) (row : ℕ → List ℕ) (m : List ℕ) (n i e : ℕ) → Laid l at (rows row i) m e → i ≡ n → Laid l at (rows row n) m e
-rows-whole l at row m n i e x h = rw h at x
-
 -- ---- a node
-
-module _ (l : List ℕ) (at r : ℕ) where
-  pub retiming-none : r ≡ 0 → Laid l at (retimingText r) l at
-  unfolding retimingText
-  retiming-none h = rw (pick-true _ _ _ (eq-eqb r 0 h)) (nothing l at)
-
-  pub retiming-some : (m o : List ℕ) (e f b : ℕ) → r ≢ 0 → Laid l at (b ∷ []) m e → Laid m e (decimal r) o f → b ≡ 43 → Laid l at (retimingText r) o f
-  unfolding retimingText
-  retiming-some m o e f b h x y is = rw (pick-false _ _ _ (ne-eqb r 0 h)) (both l at (43 ∷ []) (decimal r) m o e f (rw is at x) y)
 
 module _ (l : List ℕ) (at s q v r : ℕ) where
   abbrev text : List ℕ
@@ -118,11 +106,6 @@ module _ (nodes edges steps depth floor : ℕ) where
       (both l at (sizesText nodes edges steps) _ m r e k x (both m e (depthWord ++ decimal depth) _ o r g k y (both o g (floorWord ++ decimal floor) _ p r h k z w)))
 
 -- ---- a form's lines, by its timetable
-
-rows-same : (a b : ℕ → List ℕ) (n : ℕ) → ((v : ℕ) → v < n → a v ≡ b v) → rows a n ≡ rows b n
-unfolding rows
-rows-same a b zero h = refl
-rows-same a b (suc n) h = rw (rows-same a b n (λ v l. h v (omega arith)), h n (omega arith))
 
 -- a step's line asks for the starts of the nodes alone
 line-same : (a b retiming : ℕ → ℕ) (nodes q : ℕ) → ((v : ℕ) → v < nodes → a v ≡ b v) → stepLine a retiming nodes q ≡ stepLine b retiming nodes q

@@ -11,18 +11,18 @@ use Rattle.lists.specs.Fold.{top}
 use Rattle.answer.specs.Refused.{numberOf, fine}
 use Rattle.answer.specs.declared.Refusal.{Refusal}
 use Rattle.answer.specs.declared.Refusal.the-variants.{None, Room}
+use Rattle.laid.specs.Rows.{rows}
 use Rattle.form.specs.declared.Form.{Form}
 use Rattle.form.specs.Places.{startOf, retimingOf}
 use Rattle.reader.specs.Reading.{readForm}
-use Rattle.writer.specs.Layout.{rows}
 use Rattle.legal.specs.Loop.{loopOf}
 use Rattle.judge.specs.Judgement.{judgeRecord}
 use Rattle.floor.specs.Parts.{floorLength}
 use Rattle.listing.specs.declared.Listed.{Listed}
 use Rattle.text.specs.Decimal.{decimal, newline}
+use Rattle.text.specs.Words.{refusedWord, retimingText}
 use Rattle.listing.specs.Text.{
   markLine,
-  refusedWord,
   nodesWord,
   edgesWord,
   lengthWord,
@@ -51,10 +51,6 @@ countsLine nodes edges steps depth floor =
     ++ (lengthWord ++ (decimal steps
     ++ (depthWord ++ (decimal depth
     ++ (floorWord ++ (decimal floor ++ (verdict steps floor ++ newline))))))))))
-
--- "+r", nothing where r is 0
-unfoldable pub retimingText : ℕ → List ℕ
-retimingText r = pick (eqb r 0) [] (43 ∷ decimal r)
 
 -- " -" where none does
 unfoldable pub orIdle : List ℕ → List ℕ

@@ -14,7 +14,8 @@ use Rattle.judge.specs.Judgement.{judgeRecord}
 use Rattle.floor.specs.Parts.{floorLength}
 use Rattle.listing.specs.declared.View.{View}
 use Rattle.text.specs.Decimal.{decimal, newline}
-use Rattle.listing.specs.Text.{refusedWord, nodesWord, edgesWord, lengthWord}
+use Rattle.text.specs.Words.{refusedWord}
+use Rattle.listing.specs.Text.{nodesWord, edgesWord, lengthWord}
 use Rattle.listing.specs.Lines.{formLines}
 
 -- a form that the judge accepts and its floor: every number shown is below 1000

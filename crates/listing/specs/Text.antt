@@ -7,10 +7,6 @@ use Prim.Native.Nat.{ℕ}
 unfoldable pub markLine : List ℕ
 markLine = 82 ∷ 83 ∷ 75 ∷ 32 ∷ 49 ∷ 10 ∷ []
 
--- "refused "
-unfoldable pub refusedWord : List ℕ
-refusedWord = 114 ∷ 101 ∷ 102 ∷ 117 ∷ 115 ∷ 101 ∷ 100 ∷ 32 ∷ []
-
 -- "nodes "
 unfoldable pub nodesWord : List ℕ
 nodesWord = 110 ∷ 111 ∷ 100 ∷ 101 ∷ 115 ∷ 32 ∷ []

@@ -7,17 +7,18 @@ ghost use lib.Dec.{eqb};
 ghost use lib.ListN.{length};
 ghost use Rattle.lists.specs.Pick.{pick};
 ghost use Rattle.answer.specs.Refused.{numberOf};
-ghost use Rattle.writer.specs.Laid.{Laid};
-ghost use Rattle.writer.specs.Layout.{rows};
+ghost use Rattle.laid.specs.Laid.{Laid};
+ghost use Rattle.laid.specs.Rows.{rows};
 ghost use Rattle.text.specs.Decimal.{decimal, newline};
-ghost use Rattle.listing.specs.Text.{refusedWord};
-ghost use Rattle.listing.specs.Lines.{cell, retimingText, verdict, nodesText, stepLine, countsLine, formLines, listed, listedBuffer};
+ghost use Rattle.text.specs.Words.{refusedWord, retimingText};
+ghost use Rattle.listing.specs.Lines.{cell, verdict, nodesText, stepLine, countsLine, formLines, listed, listedBuffer};
 ghost use Rattle.listing.specs.Shown.{Shown, sizesText, Seen, Viewed, viewText};
 use answer::Refusal;
 use form::Form;
 use text::put_byte;
 use text::put_field;
 use text::put_number;
+use text::put_retiming;
 use text::put_word;
 
 // The listing's size, or Room and 0.
@@ -31,18 +32,6 @@ struct View {
     number: u32,
     form: Form,
     floor: u32,
-}
-
-// "+r", nothing where r is 0.
-pub fn put_retiming(out: &mut [u8], at: usize, retiming: u8) -> usize
-    requires { ⌜ at ≤ 1800000 ⌝ }
-    ensures { λ r. ⌜ (r ≤ at + 4) × Laid (now (out .entry)) at (retimingText retiming) (now (out .exit)) r ⌝ }
-{
-    if retiming == 0 {
-        return at;
-    }
-    let past = put_byte(out, at, b'+');
-    put_number(out, past, retiming as u32)
 }
 
 // A node where it starts in the step.

@@ -13,3 +13,4 @@ pub mod Inject
 pub mod Last
 pub mod Mapped
 pub mod Filled
+pub mod Stored

@@ -12,7 +12,7 @@ use Rattle.answer.specs.Refused.{fine}
 use Rattle.answer.specs.declared.Refusal.the-variants.{None}
 use Rattle.form.specs.Hold.{hold}
 use Rattle.legal.specs.Loop.{plain, Pair}
-use Rattle.list_rule.specs.Worked.{small}
+use Rattle.legal.specs.Small.{small}
 use Rattle.machine.specs.Values.{plus, minus, times, difference, applied, edgesInto, operandBy, computedBy}
 use Rattle.machine.specs.Run.{depth, issues, late, lateEdge, holds, held, issue, visit, stepOf, runSteps, ran, cleared, runOf}
 

@@ -16,6 +16,7 @@ use Rattle.form.specs.Ranges.{GoodEdge, WellFormed}
 use Rattle.field.specs.Number.{Bytes}
 use Rattle.field.specs.declared.Cursor.{Cursor}
 use Rattle.reader.specs.declared.Reading.{Reading}
+use Rattle.reader.specs.declared.Record.{Record}
 use Rattle.reader.specs.Tables.{headerOf}
 use Rattle.reader.specs.Reading.{startsRead, normalized, endOf, answered, readForm}
 use Rattle.writer.specs.Layout.{countBytes, headerBytes, classRows, nodeRows, edgeRows, startRows, layout}
@@ -152,3 +153,7 @@ module _ (s : List ℕ) (b : Bytes s) (f : fine (readForm s .refusal) ≡ true) 
   -- a form that is read is laid out as the bytes it was read from
   pub read-layout : layout (readForm s .form) ≡ s
   read-layout = rw read-form (whole-layout s (startsRead s) read-whole (end .whole))
+
+-- what the reader answered is well-formed, where it refused nothing
+pub read-good : (s : List ℕ) (r : Record) → r ≡ readForm s → Bytes s → fine (r .refusal) ≡ true → WellFormed (r .form)
+read-good s r back b f = rw back (read-well-formed s b (rw back at f))

@@ -8,8 +8,8 @@ use native.Mathlib.Nat.{mul-suc, mul-zero, not-suc-le-zero, eq-or-lt-of-le, le-o
 use native.Mathlib.Omega.{arith}
 use lib.ListN.{length, take, drop, length-append}
 use lib.Seq.{take-add, drop-drop, take-at, drop-at}
+use Rattle.laid.specs.Rows.{rows}
 use Rattle.field.specs.Number.{Bytes, bytesOf}
-use Rattle.writer.specs.Layout.{rows}
 
 -- no element is no byte
 pub bytes-nil : Bytes []

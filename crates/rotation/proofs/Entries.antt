@@ -99,10 +99,6 @@ module _ (asked : Form → Refusal) (planned : Form → Form) (turned : Form →
     read-fine : fine (readForm s .refusal) ≡ true
     read-fine = ap (λ (r : Record). fine (r .refusal)) (sym back) ∙ e
 
-    -- a form that is read is well-formed
-    pub form-good : WellFormed (x .form)
-    form-good = rw back (read-well-formed s bytes read-fine)
-
     module _ (writes : (f : Form) → WellFormed f → Held f → fine (asked f) ≡ true → (room : ℕ) → (refusalOf (planned f) room ≡ None) ⊎ (refusalOf (planned f) room ≡ Room 0)) (y : Plan) (plan : Planned asked planned turned (x .form) y) where
       here : Planned asked planned turned (readForm s .form) y
       here = subst (λ (q : Record). Planned asked planned turned (q .form) y) back plan

@@ -2,6 +2,7 @@
 -- Assumes nothing.
 use mathlib.Core.Path.{_≡_, refl, sym}
 use mathlib.Core.List.{List, [], _∷_, _++_}
+use mathlib.Core.Logic.{_≢_}
 use Prim.Native.Nat.{ℕ, _+_, _/_, _%_, _≤_, _<_}
 use native.Mathlib.Numerals.{add-one}
 use native.Mathlib.Omega.{arith}
@@ -10,9 +11,10 @@ use lib.Seq.{set-out, take-suc, take-all}
 use borrow.Author.Needs.{needs}
 use borrow.Author.Tests.{le-ltb, lt-ltb, eq-eqb, ne-eqb}
 use Rattle.lists.specs.Pick.{pick-true, pick-false}
-use Rattle.writer.specs.Laid.{Laid}
-use Rattle.writer.proofs.Laws.{both}
+use Rattle.laid.specs.Laid.{Laid}
+use Rattle.laid.specs.Laws.{nothing, both}
 use Rattle.text.specs.Decimal.{decimal}
+use Rattle.text.specs.Words.{retimingText}
 
 pub ruleset tests = (needs, le-ltb, lt-ltb, eq-eqb, ne-eqb)
 
@@ -57,3 +59,14 @@ module _ (l : List ℕ) (at n : ℕ) where
 pub field-put : (l : List ℕ) (at : ℕ) (w : List ℕ) (n : ℕ) (m o : List ℕ) (e a k f : ℕ) → a ≡ e → k ≡ n
     → Laid l at w m e → Laid m a (decimal k) o f → Laid l at (w ++ decimal n) o f
 field-put l at w n m o e a k f ea ek x y = both l at w (decimal n) m o e f x (rw (ea, ek) at y)
+
+-- ---- a retiming
+
+module _ (l : List ℕ) (at r : ℕ) where
+  pub retiming-none : r ≡ 0 → Laid l at (retimingText r) l at
+  unfolding retimingText
+  retiming-none h = rw (pick-true _ _ _ (eq-eqb r 0 h)) (nothing l at)
+
+  pub retiming-some : (m o : List ℕ) (e f b : ℕ) → r ≢ 0 → Laid l at (b ∷ []) m e → Laid m e (decimal r) o f → b ≡ 43 → Laid l at (retimingText r) o f
+  unfolding retimingText
+  retiming-some m o e f b h x y is = rw (pick-false _ _ _ (ne-eqb r 0 h)) (both l at (43 ∷ []) (decimal r) m o e f (rw is at x) y)

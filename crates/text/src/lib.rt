@@ -4,8 +4,9 @@ ghost use mathlib.Core.Path.{_≡_};
 ghost use mathlib.Core.List.{[], _∷_, _++_};
 ghost use Prim.Native.Nat.{_+_, _≤_, _<_};
 ghost use lib.ListN.{length};
-ghost use Rattle.writer.specs.Laid.{Laid};
+ghost use Rattle.laid.specs.Laid.{Laid};
 ghost use Rattle.text.specs.Decimal.{decimal};
+ghost use Rattle.text.specs.Words.{retimingText};
 
 // One byte, and the place past it.
 pub fn put_byte(out: &mut [u8], at: usize, byte: u8) -> usize
@@ -65,4 +66,16 @@ pub fn put_field(out: &mut [u8], at: usize, word: &[u8], number: u32) -> usize
 {
     let past = put_word(out, at, word);
     put_number(out, past, number)
+}
+
+// "+r", nothing where r is 0.
+pub fn put_retiming(out: &mut [u8], at: usize, retiming: u8) -> usize
+    requires { ⌜ at ≤ 1800000 ⌝ }
+    ensures { λ r. ⌜ (r ≤ at + 4) × Laid (now (out .entry)) at (retimingText retiming) (now (out .exit)) r ⌝ }
+{
+    if retiming == 0 {
+        return at;
+    }
+    let past = put_byte(out, at, b'+');
+    put_number(out, past, retiming as u32)
 }

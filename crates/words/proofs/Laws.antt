@@ -9,9 +9,9 @@ use lib.ListN.{length, getD, List·getD-eq-default}
 use borrow.Author.Needs.{needs}
 use borrow.Author.Tests.{le-ltb, lt-ltb, eq-eqb, ne-eqb}
 use Rattle.lists.specs.Pick.{pick-true, pick-false}
-use Rattle.writer.specs.Layout.{rows}
-use Rattle.writer.specs.Laid.{Laid}
-use Rattle.writer.proofs.Laws.{nothing}
+use Rattle.laid.specs.Laid.{Laid}
+use Rattle.laid.specs.Rows.{rows}
+use Rattle.laid.specs.Laws.{nothing}
 use Rattle.words.specs.Numbers.{placeText}
 use Rattle.words.specs.Refusals.{edgeText, edgesText, shapeTexts, ruleTexts, reasonText}
 

@@ -5,9 +5,9 @@ use Prim.Native.Nat.{ℕ, _+_, _-_, min}
 use lib.Dec.{ltb}
 use lib.ListN.{getD}
 use Rattle.lists.specs.Pick.{pick}
-use Rattle.writer.specs.Layout.{rows}
+use Rattle.laid.specs.Rows.{rows}
 use Rattle.text.specs.Decimal.{newline}
-use Rattle.listing.specs.Text.{refusedWord}
+use Rattle.text.specs.Words.{refusedWord}
 use Rattle.words.specs.Numbers.{numeral}
 use Rattle.words.specs.Words.{
   shortWord,

@@ -3,7 +3,7 @@ ghost use mathlib.Core.Path.{_≡_};
 ghost use mathlib.Core.List.{[], _∷_, _++_};
 ghost use Prim.Native.Nat.{_+_, _-_, _≤_, _<_, min};
 ghost use lib.ListN.{length, getD};
-ghost use Rattle.writer.specs.Laid.{Laid};
+ghost use Rattle.laid.specs.Laid.{Laid};
 ghost use Rattle.words.specs.Numbers.{placeText, highText, lowText, numeral};
 ghost use Rattle.words.specs.Words.{roomWord, roomEnd};
 ghost use Rattle.words.specs.Refusals.{offsetText, oneText, twoText, threeText, edgesText, cycleText, shapeTexts, ruleTexts, reasonText, refusalLine};

@@ -1,43 +1,29 @@
--- Runs of bytes laid one after the other.
+-- The layout laid table by table, read back and copied.
 -- Assumes nothing.
-use mathlib.Core.Path.{_≡_, refl, sym, _∙_}
-use mathlib.Core.List.{List, [], _∷_, _++_}
+use mathlib.Core.Path.{_≡_, refl, _∙_}
+use mathlib.Core.List.{List, [], _∷_}
 use mathlib.Core.Bool.{true, false}
 use Prim.Native.Nat.{ℕ, _+_, _≤_, _<_, min}
-use native.Mathlib.Nat.{add-zero, zero-add}
+use native.Mathlib.Nat.{zero-add}
 use native.Mathlib.Numerals.{add-one}
 use native.Mathlib.Omega.{arith}
-use lib.ListN.{length, getD, take, set, length-append}
-use lib.Seq.{sets, length-sets, take-suc, take-all, length-take-le}
+use lib.ListN.{length, getD, take, set}
+use lib.Seq.{sets, take-suc, take-all, length-take-le}
 use borrow.Author.Tests.{le-ltb, lt-ltb}
 use Rattle.lists.specs.Pick.{pick}
+use Rattle.lists.specs.Stored.{sets-front}
 use Rattle.answer.specs.Refused.{fine}
 use Rattle.answer.specs.declared.Refusal.the-variants.{None, Room}
-use Rattle.answer.proofs.Laws.{sets-append, sets-front}
+use Rattle.laid.specs.Laid.{Laid}
+use Rattle.laid.specs.Rows.{rows}
+use Rattle.laid.specs.Laws.{both, same-long}
 use Rattle.form.specs.declared.Form.{Form}
 use Rattle.form.specs.Places.{classOf, nodeOf, edgeOf, startOf, retimingOf, scheduled}
 use Rattle.reader.specs.declared.Record.{Record}
 use Rattle.reader.specs.Reading.{readForm}
 use Rattle.writer.specs.declared.Written.{Written}
-use Rattle.writer.specs.Layout.{classBytes, nodeBytes, edgeBytes, startBytes, headerBytes, rows, classRows, nodeRows, edgeRows, startRows, layout}
-use Rattle.writer.specs.Laid.{Laid}
+use Rattle.writer.specs.Layout.{classBytes, nodeBytes, edgeBytes, startBytes, headerBytes, classRows, nodeRows, edgeRows, startRows, layout}
 use Rattle.writer.specs.Writing.{refusalOf, written, bufferAfter}
-
-module _ (l : List ℕ) (at : ℕ) where
-  pub nothing : Laid l at [] l at
-  nothing = record { is = refl; ends = sym (add-zero at) }
-
-  -- one run, then another
-  pub both : (vs ws m n : List ℕ) (e f : ℕ) → Laid l at vs m e → Laid m e ws n f → Laid l at (vs ++ ws) n f
-  both vs ws m n e f x y = record {
-    is = y .is ∙ rw (x .is, x .ends) (sym (sets-append vs ws l at));
-    ends = omega (arith, x .ends, y .ends, length-append vs ws);
-  }
-
-  -- one row more
-  pub row-more : (row : ℕ → List ℕ) (i : ℕ) (m n : List ℕ) (e f : ℕ) → Laid l at (rows row i) m e → Laid m e (row i) n f → Laid l at (rows row (i + 1)) n f
-  unfolding rows
-  row-more row i m n e f x y = rw add-one (both (rows row i) (row i) m n e f x y)
 
 -- one byte more of a copy
 pub byte-more : (l s m : List ℕ) (i : ℕ) → i < length s → Laid l 0 (take i s) m i → Laid l 0 (take (i + 1) s) (set m i (getD s i 0)) (i + 1)
@@ -60,10 +46,6 @@ unfolding layout classRows nodeRows edgeRows startRows
 whole f l a b c d e h i j k n x y z w header classes ex nodes ey edges ez starts ew =
     both _ _ _ _ _ _ _ _ header
     (both _ _ _ _ _ _ _ _ (rw ex at classes) (both _ _ _ _ _ _ _ _ (rw ey at nodes) (both _ _ _ _ _ _ _ _ (rw ez at edges) (rw ew at starts))))
-
--- laying keeps a buffer's length
-pub same-long : (l vs m : List ℕ) (at n : ℕ) → Laid l at vs m n → length m ≡ length l
-same-long l vs m at n x = rw (x .is) (length-sets l at vs)
 
 -- ---- a form laid into a buffer, and its bytes at the front of it
 

@@ -1,7 +1,8 @@
 -- The bytes of a form, in layout order. A count past its table's places is laid out as it is, and the table as far as it goes.
 -- Assumes nothing.
 use mathlib.Core.List.{List, [], _∷_, _++_}
-use Prim.Native.Nat.{ℕ, zero, suc, min}
+use Prim.Native.Nat.{ℕ, min}
+use Rattle.laid.specs.Rows.{rows}
 use Rattle.form.specs.declared.Form.{Form}
 use Rattle.form.specs.declared.Class.{Class}
 use Rattle.form.specs.declared.Node.{Node}
@@ -41,11 +42,6 @@ countBytes classes nodes edges last = 82 ∷ 83 ∷ 75 ∷ 1 ∷ 0 ∷ classes �
 
 abbrev pub headerBytes : Form → List ℕ
 headerBytes f = countBytes (f .classes) (f .nodes) (f .edges) (f .length)
-
--- rows 0 to n - 1, one after the other
-unfoldable pub rows : (ℕ → List ℕ) → ℕ → List ℕ
-rows row zero = []
-rows row (suc n) = rows row n ++ row n
 
 module _ (f : Form) where
   unfoldable pub classRows : List ℕ

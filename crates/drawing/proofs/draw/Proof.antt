@@ -3,8 +3,9 @@
 use mathlib.Core.Path.{sym, _∙_}
 use native.Mathlib.Omega.{arith}
 use borrow.Author.Tests.{not-true, not-false}
+use Rattle.record.specs.Read.{read-good}
 use Rattle.drawing.proofs.Laws.{tests}
-use Rattle.drawing.proofs.Whole.{read-good, refused-draw, cramped, fits}
+use Rattle.drawing.proofs.Whole.{refused-draw, cramped, fits}
 use Rattle.drawing.proofs.draw.Statement.{statement}
 use Rattle.drawing.proofs.draw.Tie as tie
 

@@ -3,8 +3,8 @@
 use mathlib.Core.Path.{_≡_}
 use Prim.Native.Nat.{_≤_, _+_, _-_}
 use native.Mathlib.Omega.{arith}
-use Rattle.writer.specs.Laid.{Laid}
-use Rattle.writer.proofs.Laws.{same-long}
+use Rattle.laid.specs.Laid.{Laid}
+use Rattle.laid.specs.Laws.{same-long}
 use Rattle.drawing.specs.Table.{blanks}
 use Rattle.drawing.proofs.Laws.{tests, no-blank, blank-more, blanks-whole}
 use Rattle.drawing.proofs.put_blanks.Statement.{statement}

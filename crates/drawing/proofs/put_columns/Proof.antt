@@ -3,10 +3,9 @@
 use mathlib.Core.Path.{_≡_}
 use Prim.Native.Nat.{_≤_, _+_, _-_, _*_}
 use native.Mathlib.Omega.{arith}
-use Rattle.writer.specs.Laid.{Laid}
-use Rattle.writer.specs.Layout.{rows}
-use Rattle.writer.proofs.Laws.{nothing, row-more}
-use Rattle.listing.proofs.Laws.{rows-whole}
+use Rattle.laid.specs.Laid.{Laid}
+use Rattle.laid.specs.Rows.{rows}
+use Rattle.laid.specs.Laws.{nothing, row-more, rows-whole}
 use lib.ListN.{length, getD}
 use mathlib.Core.Path.{ap}
 use Rattle.form.specs.declared.Form.{Form}

@@ -1,6 +1,6 @@
 -- `drawing::put_held` meets its contract: blanks, then the number in brackets.
 -- Assumes nothing.
-use Rattle.writer.proofs.Laws.{both}
+use Rattle.laid.specs.Laws.{both}
 use Rattle.drawing.proofs.Laws.{tests, right-put, held-left}
 use Rattle.drawing.proofs.put_held.Statement.{statement}
 use Rattle.drawing.proofs.put_held.Tie as tie

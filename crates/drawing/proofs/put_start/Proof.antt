@@ -1,7 +1,7 @@
 -- `drawing::put_start` meets its contract: blanks, the number, the retiming.
 -- Assumes nothing.
 use native.Mathlib.Omega.{arith}
-use Rattle.writer.proofs.Laws.{both}
+use Rattle.laid.specs.Laws.{both}
 use Rattle.drawing.proofs.Laws.{tests, right-put, start-left}
 use Rattle.drawing.proofs.put_start.Statement.{statement}
 use Rattle.drawing.proofs.put_start.Tie as tie

@@ -2,10 +2,9 @@
 -- Assumes nothing.
 use Prim.Native.Nat.{_≤_, _+_, _-_, _*_}
 use native.Mathlib.Omega.{arith}
-use Rattle.writer.specs.Laid.{Laid}
-use Rattle.writer.specs.Layout.{rows}
-use Rattle.writer.proofs.Laws.{nothing, same-long}
-use Rattle.listing.proofs.Laws.{rows-whole}
+use Rattle.laid.specs.Laid.{Laid}
+use Rattle.laid.specs.Rows.{rows}
+use Rattle.laid.specs.Laws.{nothing, rows-whole, same-long}
 use lib.ListN.{getD}
 use Rattle.drawing.specs.Table.{startPlace}
 use Rattle.drawing.proofs.Laws.{tests, start-more}

@@ -4,11 +4,12 @@ use mathlib.Core.Path.{sym, subst, _∙_}
 use native.Mathlib.Omega.{arith}
 use borrow.Author.Needs.{needs}
 use borrow.Author.Tests.{not-true, not-false}
+use Rattle.record.specs.Read.{read-good}
 use Rattle.tables.specs.Lent.{lent-form}
 use Rattle.fit.specs.declared.Fitted.{Fitted}
 use Rattle.fit.specs.Fitting.{RecordFitted}
 use Rattle.fit.specs.Planned.{fittedAnswer}
-use Rattle.fit.proofs.Plans.{fit-unread, form-good, fit-refused, fit-taken, fit-answered}
+use Rattle.fit.proofs.Plans.{fit-unread, fit-refused, fit-taken, fit-answered}
 use Rattle.fit.proofs.fit.Statement.{statement}
 use Rattle.fit.proofs.fit.Tie as tie
 
@@ -35,7 +36,7 @@ times-of-requires : tie.Need-times-of-requires
 times-of-requires c κs =
     let r = c .before .before .before in
     let a = r .before .before .before .args in
-    form-good (a .«record» .now) (a .out .now) _ (r .read .ensures) (λ i. omega (arith, r .before .before .shared-slice-known .given i)) (sym (c .before .before .is-fine .ensures) ∙ not-false _ (c .before .if1 .left))
+    read-good (a .«record» .now) _ (r .read .ensures) (λ i. omega (arith, r .before .before .shared-slice-known .given i)) (sym (c .before .before .is-fine .ensures) ∙ not-false _ (c .before .if1 .left))
 
 plan-tables-requires : tie.Need-plan-tables-requires
 plan-tables-requires c κs =
@@ -43,7 +44,7 @@ plan-tables-requires c κs =
     let a = r .before .before .before .args in (
       r .read .result .form,
       lent-form _ _
-          (form-good (a .«record» .now) (a .out .now) _ (r .read .ensures) (λ i. omega (arith, r .before .before .shared-slice-known .given i)) (sym (c .before .before .before .before .before .before .before .is-fine .ensures) ∙ not-false _ (c .before .before .before .before .before .before .if1 .left)))
+          (read-good (a .«record» .now) _ (r .read .ensures) (λ i. omega (arith, r .before .before .shared-slice-known .given i)) (sym (c .before .before .before .before .before .before .before .is-fine .ensures) ∙ not-false _ (c .before .before .before .before .before .before .if1 .left)))
           (c .before .before .before .before .times-of .ensures),
     )
 
@@ -58,7 +59,7 @@ returns-2 c =
     let r = c .before .before .before .before .before .before .before .before .before .before .before .before .before in
     let a = r .before .before .before .args in
     let good = sym (c .before .before .before .before .before .before .before .before .before .before .before .before .is-fine .ensures) ∙ not-false _ (c .before .before .before .before .before .before .before .before .before .before .before .if1 .left) in
-    let w = form-good (a .«record» .now) (a .out .now) _ (r .read .ensures) (λ i. omega (arith, r .before .before .shared-slice-known .given i)) good in
+    let w = read-good (a .«record» .now) _ (r .read .ensures) (λ i. omega (arith, r .before .before .shared-slice-known .given i)) good in
     subst (λ (x : Fitted). RecordFitted (a .«record» .now) (a .out .now) (a .out .now) x) (sym (c .unfitted2 .ensures))
     (fit-refused (a .«record» .now) (a .out .now) _ (r .read .ensures) (λ i. omega (arith, r .before .before .shared-slice-known .given i)) good _
     (c .before .before .before .before .plan-tables .ensures _ (lent-form _ _ w (c .before .before .before .before .before .before .before .before .before .times-of .ensures)))
@@ -69,7 +70,7 @@ write-fitted-requires c κs =
     let r = c .before .before .before .before .before .before .before .before .before .before .before .before .before .before in
     let a = r .before .before .before .args in
     let good = sym (c .before .before .before .before .before .before .before .before .before .before .before .before .before .is-fine .ensures) ∙ not-false _ (c .before .before .before .before .before .before .before .before .before .before .before .before .if1 .left) in
-    let w = form-good (a .«record» .now) (a .out .now) _ (r .read .ensures) (λ i. omega (arith, r .before .before .shared-slice-known .given i)) good in
+    let w = read-good (a .«record» .now) _ (r .read .ensures) (λ i. omega (arith, r .before .before .shared-slice-known .given i)) good in
     fit-taken (a .«record» .now) (a .out .now) _ (r .read .ensures) (λ i. omega (arith, r .before .before .shared-slice-known .given i)) good _
     (c .before .before .before .before .before .plan-tables .ensures _ (lent-form _ _ w (c .before .before .before .before .before .before .before .before .before .before .times-of .ensures)))
     (sym (c .before .before .before .is-fine2 .ensures) ∙ not-false _ (c .before .before .if2 .left))
@@ -83,7 +84,7 @@ returns-3 c =
     let r = c .before .before .before .before .before .before .before .before .before .before .before .before .before .before .before .before .before in
     let a = r .before .before .before .args in
     let good = sym (c .before .before .before .before .before .before .before .before .before .before .before .before .before .before .before .before .is-fine .ensures) ∙ not-false _ (c .before .before .before .before .before .before .before .before .before .before .before .before .before .before .before .if1 .left) in
-    let w = form-good (a .«record» .now) (a .out .now) _ (r .read .ensures) (λ i. omega (arith, r .before .before .shared-slice-known .given i)) good in
+    let w = read-good (a .«record» .now) _ (r .read .ensures) (λ i. omega (arith, r .before .before .shared-slice-known .given i)) good in
     let written = c .before .before .write-fitted .ensures in
     fit-answered (a .«record» .now) (a .out .now) _ (r .read .ensures) (λ i. omega (arith, r .before .before .shared-slice-known .given i)) good _
     (c .before .before .before .before .before .before .before .before .plan-tables .ensures _ (lent-form _ _ w (c .before .before .before .before .before .before .before .before .before .before .before .before .before .times-of .ensures)))

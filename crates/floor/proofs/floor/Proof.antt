@@ -3,8 +3,9 @@
 use mathlib.Core.Path.{sym, _∙_}
 use native.Mathlib.Omega.{arith}
 use borrow.Author.Tests.{not-true, not-false}
+use Rattle.record.specs.Read.{read-good}
 use Rattle.tables.specs.Lent.{lent-form}
-use Rattle.floor.proofs.Answers.{read-good, record-refused, record-floored}
+use Rattle.floor.proofs.Answers.{record-refused, record-floored}
 use borrow.Author.Needs.{needs}
 use Rattle.floor.proofs.floor.Statement.{statement}
 use Rattle.floor.proofs.floor.Tie as tie

@@ -4,8 +4,9 @@ use mathlib.Core.Path.{sym, _∙_}
 use native.Mathlib.Omega.{arith}
 use borrow.Author.Tests.{not-true, not-false}
 use borrow.Author.Needs.{needs}
+use Rattle.record.specs.Read.{read-good}
 use Rattle.tables.specs.Lent.{lent-form}
-use Rattle.judge.proofs.Laws.{read-good, record-refused, record-judged}
+use Rattle.judge.proofs.Laws.{record-refused, record-judged}
 use Rattle.judge.proofs.judge.Statement.{statement}
 use Rattle.judge.proofs.judge.Tie as tie
 

@@ -2,11 +2,11 @@
 -- Assumes nothing.
 use Prim.Native.Nat.{_≤_, _+_, _*_, _-_}
 use native.Mathlib.Omega.{arith}
-use Rattle.writer.specs.Layout.{rows}
-use Rattle.writer.specs.Laid.{Laid}
-use Rattle.writer.proofs.Laws.{nothing, row-more, same-long}
+use Rattle.laid.specs.Laid.{Laid}
+use Rattle.laid.specs.Rows.{rows}
+use Rattle.laid.specs.Laws.{nothing, row-more, rows-whole, same-long}
 use Rattle.listing.specs.Lines.{cell, stepLine}
-use Rattle.listing.proofs.Laws.{tests, rows-whole}
+use Rattle.listing.proofs.Laws.{tests}
 use Rattle.listing.proofs.put_lines.Statement.{statement}
 use Rattle.listing.proofs.put_lines.Tie as tie
 

@@ -2,9 +2,9 @@
 -- Assumes nothing.
 use Prim.Native.Nat.{_≤_, _+_, _*_, _-_}
 use native.Mathlib.Omega.{arith}
-use Rattle.writer.specs.Layout.{rows}
-use Rattle.writer.specs.Laid.{Laid}
-use Rattle.writer.proofs.Laws.{nothing, same-long}
+use Rattle.laid.specs.Laid.{Laid}
+use Rattle.laid.specs.Rows.{rows}
+use Rattle.laid.specs.Laws.{nothing, same-long}
 use Rattle.listing.specs.Lines.{cell, nodeText}
 use Rattle.listing.proofs.Laws.{tests, node-more, nodes-whole}
 use Rattle.listing.proofs.put_nodes.Statement.{statement}

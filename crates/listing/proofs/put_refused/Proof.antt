@@ -1,8 +1,8 @@
 -- `listing::put_refused` meets its contract: a field and the line's end.
 -- Assumes nothing.
 use borrow.Author.Needs.{needs}
-use Rattle.writer.proofs.Laws.{both}
-use Rattle.listing.specs.Text.{refusedWord}
+use Rattle.laid.specs.Laws.{both}
+use Rattle.text.specs.Words.{refusedWord}
 use Rattle.listing.proofs.put_refused.Statement.{statement}
 use Rattle.listing.proofs.put_refused.Tie as tie
 

@@ -1,7 +1,7 @@
 -- `listing::put_sizes` meets its contract: three fields.
 -- Assumes nothing.
 use borrow.Author.Needs.{needs}
-use Rattle.writer.proofs.Laws.{both}
+use Rattle.laid.specs.Laws.{both}
 use Rattle.listing.specs.Text.{nodesWord, edgesWord, lengthWord}
 use Rattle.listing.specs.Shown.{sizesText}
 use Rattle.listing.proofs.put_sizes.Statement.{statement}

@@ -4,8 +4,8 @@ use mathlib.Core.Path.{sym, _∙_}
 use native.Mathlib.Omega.{arith}
 use borrow.Author.Tests.{not-true, not-false}
 use borrow.Author.Needs.{needs}
+use Rattle.record.specs.Read.{read-good}
 use Rattle.tables.specs.Lent.{lent-form}
-use Rattle.judge.proofs.Laws.{read-good}
 use Rattle.listing.proofs.Accepted.{read-viewed, judged-viewed, form-viewed}
 use Rattle.listing.proofs.view_of.Statement.{statement}
 use Rattle.listing.proofs.view_of.Tie as tie

@@ -4,9 +4,10 @@ use mathlib.Core.Path.{sym, _∙_}
 use native.Mathlib.Omega.{arith}
 use borrow.Author.Tests.{not-true, not-false}
 use borrow.Author.Needs.{needs}
+use Rattle.record.specs.Read.{read-good}
 use Rattle.rotation.specs.Rotation.{firstForm}
 use Rattle.rotation.specs.Scheduling.{firstAsked, unturned}
-use Rattle.rotation.proofs.Entries.{entry-unread, form-good, plan-taken, entry-planned, first-writes}
+use Rattle.rotation.proofs.Entries.{entry-unread, plan-taken, entry-planned, first-writes}
 use Rattle.rotation.proofs.first.Statement.{statement}
 use Rattle.rotation.proofs.first.Tie as tie
 
@@ -26,7 +27,7 @@ first-plan-requires : tie.Need-first-plan-requires
 first-plan-requires c κs =
     let r = c .before .before in
     let a = r .before .before .before .args in
-    form-good firstAsked firstForm unturned (a .«record» .now) (a .out .now) _ (r .read .ensures) (λ i. omega (arith, r .before .before .shared-slice-known .given i))
+    read-good (a .«record» .now) _ (r .read .ensures) (λ i. omega (arith, r .before .before .shared-slice-known .given i))
     (sym (c .before .is-fine .ensures) ∙ not-false _ (c .if1 .left))
 
 write-plan-requires : tie.Need-write-plan-requires

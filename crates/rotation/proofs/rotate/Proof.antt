@@ -4,8 +4,9 @@ use mathlib.Core.Path.{sym, _∙_}
 use native.Mathlib.Omega.{arith}
 use borrow.Author.Needs.{needs}
 use borrow.Author.Tests.{not-true, not-false}
+use Rattle.record.specs.Read.{read-good}
 use Rattle.rotation.specs.Scheduling.{rotateAsked, rotatedBy, unturned}
-use Rattle.rotation.proofs.Entries.{entry-unread, form-good, plan-taken, entry-planned}
+use Rattle.rotation.proofs.Entries.{entry-unread, plan-taken, entry-planned}
 use Rattle.rotation.proofs.Rotates.{rotate-writes}
 use Rattle.rotation.proofs.rotate.Statement.{statement}
 use Rattle.rotation.proofs.rotate.Tie as tie
@@ -26,7 +27,7 @@ rotate-plan-requires : tie.Need-rotate-plan-requires
 rotate-plan-requires c κs =
     let r = c .before .before in
     let a = r .before .before .before .args in
-    form-good (rotateAsked (a .steps)) (rotatedBy (a .steps)) unturned (a .«record» .now) (a .out .now) _ (r .read .ensures) (λ i. omega (arith, r .before .before .shared-slice-known .given i))
+    read-good (a .«record» .now) _ (r .read .ensures) (λ i. omega (arith, r .before .before .shared-slice-known .given i))
     (sym (c .before .is-fine .ensures) ∙ not-false _ (c .if1 .left))
 
 write-plan-requires : tie.Need-write-plan-requires

@@ -4,8 +4,8 @@ use mathlib.Core.Path.{_≡_}
 use Prim.Native.Nat.{_≤_, _+_, _-_}
 use native.Mathlib.Omega.{arith}
 use lib.ListN.{length, take}
-use Rattle.writer.specs.Laid.{Laid}
-use Rattle.writer.proofs.Laws.{nothing, same-long}
+use Rattle.laid.specs.Laid.{Laid}
+use Rattle.laid.specs.Laws.{nothing, same-long}
 use Rattle.text.proofs.Laws.{tests, byte-more, word-whole}
 use Rattle.text.proofs.put_word.Statement.{statement}
 use Rattle.text.proofs.put_word.Tie as tie

@@ -1,7 +1,7 @@
 -- `words::put_amid` meets its contract: a word with a number, then a word.
 -- Assumes nothing.
 use borrow.Author.Needs.{needs}
-use Rattle.writer.proofs.Laws.{both}
+use Rattle.laid.specs.Laws.{both}
 use Rattle.words.proofs.put_amid.Statement.{statement}
 use Rattle.words.proofs.put_amid.Tie as tie
 

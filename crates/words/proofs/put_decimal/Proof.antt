@@ -1,7 +1,7 @@
 -- `words::put_decimal` meets its contract: the high places, then the low ones.
 -- Assumes nothing.
 use borrow.Author.Needs.{needs}
-use Rattle.writer.proofs.Laws.{both}
+use Rattle.laid.specs.Laws.{both}
 use Rattle.words.specs.Numbers.{numeral}
 use Rattle.words.proofs.put_decimal.Statement.{statement}
 use Rattle.words.proofs.put_decimal.Tie as tie

@@ -1,7 +1,7 @@
 -- `words::put_edge` meets its contract: a space, then a number.
 -- Assumes nothing.
 use borrow.Author.Needs.{needs}
-use Rattle.writer.proofs.Laws.{both}
+use Rattle.laid.specs.Laws.{both}
 use Rattle.words.proofs.put_edge.Statement.{statement}
 use Rattle.words.proofs.put_edge.Tie as tie
 

@@ -3,9 +3,9 @@
 use Prim.Native.Nat.{_+_, _*_, _-_, _≤_}
 use native.Mathlib.Omega.{arith}
 use borrow.Author.Needs.{needs}
-use Rattle.writer.proofs.Laws.{nothing, row-more, same-long}
-use Rattle.writer.specs.Laid.{Laid}
-use Rattle.writer.specs.Layout.{rows}
+use Rattle.laid.specs.Laid.{Laid}
+use Rattle.laid.specs.Rows.{rows}
+use Rattle.laid.specs.Laws.{nothing, row-more, same-long}
 use Rattle.words.specs.Refusals.{edgeText}
 use Rattle.words.proofs.Laws.{edges-whole}
 use Rattle.words.proofs.put_edges.Statement.{statement}

@@ -1,7 +1,7 @@
 -- `words::put_high` meets its contract: five places.
 -- Assumes nothing.
 use borrow.Author.Needs.{needs}
-use Rattle.writer.proofs.Laws.{both}
+use Rattle.laid.specs.Laws.{both}
 use Rattle.words.specs.Numbers.{highText}
 use Rattle.words.proofs.put_high.Statement.{statement}
 use Rattle.words.proofs.put_high.Tie as tie

@@ -1,7 +1,7 @@
 -- `words::put_low` meets its contract: four places and the last digit.
 -- Assumes nothing.
 use borrow.Author.Needs.{needs}
-use Rattle.writer.proofs.Laws.{both}
+use Rattle.laid.specs.Laws.{both}
 use Rattle.words.specs.Numbers.{lowText}
 use Rattle.words.proofs.put_low.Statement.{statement}
 use Rattle.words.proofs.put_low.Tie as tie

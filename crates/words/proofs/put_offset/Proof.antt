@@ -1,7 +1,7 @@
 -- `words::put_offset` meets its contract: a name, then the offset.
 -- Assumes nothing.
 use borrow.Author.Needs.{needs}
-use Rattle.writer.proofs.Laws.{both}
+use Rattle.laid.specs.Laws.{both}
 use Rattle.words.specs.Words.{fieldWord}
 use Rattle.words.specs.Refusals.{offsetText, oneText}
 use Rattle.words.proofs.put_offset.Statement.{statement}

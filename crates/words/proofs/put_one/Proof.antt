@@ -1,7 +1,7 @@
 -- `words::put_one` meets its contract: a word, then a number.
 -- Assumes nothing.
 use borrow.Author.Needs.{needs}
-use Rattle.writer.proofs.Laws.{both}
+use Rattle.laid.specs.Laws.{both}
 use Rattle.words.specs.Refusals.{oneText}
 use Rattle.words.proofs.put_one.Statement.{statement}
 use Rattle.words.proofs.put_one.Tie as tie

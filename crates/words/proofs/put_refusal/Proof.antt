@@ -2,8 +2,8 @@
 -- Assumes nothing.
 use native.Mathlib.Omega.{arith}
 use borrow.Author.Needs.{needs}
-use Rattle.listing.specs.Text.{refusedWord}
-use Rattle.writer.proofs.Laws.{both}
+use Rattle.laid.specs.Laws.{both}
+use Rattle.text.specs.Words.{refusedWord}
 use Rattle.words.specs.Refusals.{refusalLine, oneText}
 use Rattle.words.proofs.put_refusal.Statement.{statement}
 use Rattle.words.proofs.put_refusal.Tie as tie

@@ -1,7 +1,7 @@
 -- `words::put_three` meets its contract: two words with their numbers, then a third.
 -- Assumes nothing.
 use borrow.Author.Needs.{needs}
-use Rattle.writer.proofs.Laws.{both}
+use Rattle.laid.specs.Laws.{both}
 use Rattle.words.specs.Refusals.{threeText}
 use Rattle.words.proofs.put_three.Statement.{statement}
 use Rattle.words.proofs.put_three.Tie as tie

@@ -1,7 +1,7 @@
 -- `words::put_two` meets its contract: one word with its number, then another.
 -- Assumes nothing.
 use borrow.Author.Needs.{needs}
-use Rattle.writer.proofs.Laws.{both}
+use Rattle.laid.specs.Laws.{both}
 use Rattle.words.specs.Refusals.{twoText}
 use Rattle.words.proofs.put_two.Statement.{statement}
 use Rattle.words.proofs.put_two.Tie as tie

@@ -5,8 +5,9 @@ use Prim.Native.Nat.{_≤_, _-_}
 use lib.ListN.{length, take}
 use native.Mathlib.Omega.{arith}
 use borrow.Author.Needs.{needs}
-use Rattle.writer.specs.Laid.{Laid}
-use Rattle.writer.proofs.Laws.{nothing, byte-more, copied}
+use Rattle.laid.specs.Laid.{Laid}
+use Rattle.laid.specs.Laws.{nothing}
+use Rattle.writer.proofs.Laws.{byte-more, copied}
 use Rattle.writer.proofs.copy.Statement.{statement}
 use Rattle.writer.proofs.copy.Tie as tie
 

@@ -4,11 +4,12 @@ use mathlib.Core.Path.{_≡_}
 use Prim.Native.Nat.{_≤_, _+_, _*_, _-_}
 use native.Mathlib.Omega.{arith}
 use lib.ListN.{getD}
+use Rattle.laid.specs.Laid.{Laid}
+use Rattle.laid.specs.Rows.{rows}
+use Rattle.laid.specs.Laws.{nothing, row-more}
 use Rattle.form.specs.Places.{noClass}
 use Rattle.reader.proofs.Laws.{tests}
-use Rattle.writer.specs.Layout.{classBytes, rows}
-use Rattle.writer.specs.Laid.{Laid}
-use Rattle.writer.proofs.Laws.{nothing, row-more}
+use Rattle.writer.specs.Layout.{classBytes}
 use Rattle.writer.proofs.put_classes.Statement.{statement}
 use Rattle.writer.proofs.put_classes.Tie as tie
 

@@ -4,10 +4,11 @@ use mathlib.Core.Path.{_≡_}
 use Prim.Native.Nat.{_≤_, _+_, _*_, _-_}
 use native.Mathlib.Omega.{arith}
 use lib.ListN.{getD}
+use Rattle.laid.specs.Laid.{Laid}
+use Rattle.laid.specs.Rows.{rows}
+use Rattle.laid.specs.Laws.{nothing, row-more}
 use Rattle.reader.proofs.Laws.{tests}
-use Rattle.writer.specs.Layout.{edgeBytes, rows}
-use Rattle.writer.specs.Laid.{Laid}
-use Rattle.writer.proofs.Laws.{nothing, row-more}
+use Rattle.writer.specs.Layout.{edgeBytes}
 use Rattle.writer.proofs.put_edges.Statement.{statement}
 use Rattle.writer.proofs.put_edges.Tie as tie
 

@@ -4,11 +4,12 @@ use mathlib.Core.Path.{_≡_}
 use Prim.Native.Nat.{_≤_, _+_, _*_, _-_}
 use native.Mathlib.Omega.{arith}
 use lib.ListN.{getD}
+use Rattle.laid.specs.Laid.{Laid}
+use Rattle.laid.specs.Rows.{rows}
+use Rattle.laid.specs.Laws.{nothing, row-more}
 use Rattle.form.specs.Places.{noNode}
 use Rattle.reader.proofs.Laws.{tests}
-use Rattle.writer.specs.Layout.{nodeBytes, rows}
-use Rattle.writer.specs.Laid.{Laid}
-use Rattle.writer.proofs.Laws.{nothing, row-more}
+use Rattle.writer.specs.Layout.{nodeBytes}
 use Rattle.writer.proofs.put_nodes.Statement.{statement}
 use Rattle.writer.proofs.put_nodes.Tie as tie
 

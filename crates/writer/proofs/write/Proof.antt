@@ -5,7 +5,8 @@ use native.Mathlib.Omega.{arith}
 use lib.ListN.{replicate}
 use borrow.Author.Tests.{not-true, not-false}
 use borrow.Author.Needs.{needs}
-use Rattle.writer.proofs.Laws.{same-long, front-long, front, refused, accepted}
+use Rattle.laid.specs.Laws.{same-long}
+use Rattle.writer.proofs.Laws.{front-long, front, refused, accepted}
 use Rattle.writer.proofs.write.Statement.{statement}
 use Rattle.writer.proofs.write.Tie as tie
 

@@ -4,7 +4,8 @@ use mathlib.Core.Path.{sym}
 use native.Mathlib.Omega.{arith}
 use lib.ListN.{replicate}
 use borrow.Author.Needs.{needs}
-use Rattle.writer.proofs.Laws.{same-long, front-long, front}
+use Rattle.laid.specs.Laws.{same-long}
+use Rattle.writer.proofs.Laws.{front-long, front}
 use Rattle.writer.proofs.write_taken.Statement.{statement}
 use Rattle.writer.proofs.write_taken.Tie as tie
 

@@ -1,10 +1,10 @@
--- `listing::put_retiming` meets its contract: nothing, or "+" and a number.
+-- `text::put_retiming` meets its contract: nothing, or "+" and a number.
 -- Assumes nothing.
 use native.Mathlib.Omega.{arith}
 use borrow.Author.Needs.{needs}
-use Rattle.listing.proofs.Laws.{retiming-none, retiming-some}
-use Rattle.listing.proofs.put_retiming.Statement.{statement}
-use Rattle.listing.proofs.put_retiming.Tie as tie
+use Rattle.text.proofs.Laws.{retiming-none, retiming-some}
+use Rattle.text.proofs.put_retiming.Statement.{statement}
+use Rattle.text.proofs.put_retiming.Tie as tie
 
 returns : tie.Need-returns
 returns c = (search needs, retiming-none _ _ _ (omega (arith, c .if1 .taken)))
