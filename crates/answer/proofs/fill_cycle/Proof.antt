@@ -22,30 +22,6 @@ loop-holds : tie.Need-loop-holds Inv-loop μ-loop
 unfolding span
 loop-holds c = (search needs, refl)
 
-mul-edge-within : tie.Need-mul-edge-within Inv-loop μ-loop
-mul-edge-within c = search needs
-
-element-copy-out-edge-within : tie.Need-element-copy-out-edge-within Inv-loop μ-loop
-element-copy-out-edge-within c = search needs
-
-edge-within-requires : tie.Need-edge-within-requires Inv-loop μ-loop
-edge-within-requires c κs = search needs
-
-add-answer : tie.Need-add-answer Inv-loop μ-loop
-add-answer c = search needs
-
-mul-answer : tie.Need-mul-answer Inv-loop μ-loop
-mul-answer c = search needs
-
-element-write-answer : tie.Need-element-write-answer Inv-loop μ-loop
-element-write-answer c = search needs
-
-add-i : tie.Need-add-i Inv-loop μ-loop
-add-i c = search needs
-
-loop-less : tie.Need-loop-less Inv-loop μ-loop
-loop-less c = search needs
-
 loop-again : tie.Need-loop-again Inv-loop μ-loop
 unfolding cycleEdge
 loop-again c =
@@ -65,13 +41,13 @@ fill-cycle-spec =
     Inv-loop
     μ-loop
     loop-holds
-    mul-edge-within
-    element-copy-out-edge-within
-    edge-within-requires
-    add-answer
-    mul-answer
-    element-write-answer
-    add-i
-    loop-less
+    (λ c. search needs)
+    (λ c. search needs)
+    (λ c κs. search needs)
+    (λ c. search needs)
+    (λ c. search needs)
+    (λ c. search needs)
+    (λ c. search needs)
+    (λ c. search needs)
     loop-again
     returns)

@@ -6,12 +6,6 @@ use borrow.Author.Needs.{needs}
 use Rattle.answer.proofs.told_of.Statement.{statement}
 use Rattle.answer.proofs.told_of.Tie as tie
 
-details-requires : tie.Need-details-requires
-details-requires c κs = search needs
-
-is-fine-requires : tie.Need-is-fine-requires
-is-fine-requires c κs = search needs
-
 returns : tie.Need-returns
 unfolding toldOf pick
 returns c = rw (← c .before .is-fine .ensures, c .if1 .taken)
@@ -21,4 +15,4 @@ unfolding toldOf pick
 returns-2 c = rw (← c .before .is-fine .ensures, c .if1 .left) (c .before .before .details .ensures)
 
 pub told-of-spec : {M : Type 1} → statement M
-told-of-spec = tie.close (tie.spec details-requires is-fine-requires returns returns-2)
+told-of-spec = tie.close (tie.spec (λ c κs. search needs) (λ c κs. search needs) returns returns-2)

@@ -13,36 +13,20 @@ abbrev μ-loop : tie.MeasureT-loop
 μ-loop words sum₀ i₀ sum i = length words - i
 
 -- src/main.rt:144:5
-loop-holds : tie.Need-loop-holds Inv-loop μ-loop
-loop-holds c = search needs
 
 -- src/main.rt:145:26
-mul-mixed : tie.Need-mul-mixed Inv-loop μ-loop
-mul-mixed c = search needs
 
 -- src/main.rt:145:26
-shared-slice-read-mixed : tie.Need-shared-slice-read-mixed Inv-loop μ-loop
-shared-slice-read-mixed c = search needs
 
 -- src/main.rt:145:9
-mixed-requires : tie.Need-mixed-requires Inv-loop μ-loop
-mixed-requires c κs = search needs
 
 -- src/main.rt:146:9
-add-i : tie.Need-add-i Inv-loop μ-loop
-add-i c = search needs
 
 -- src/main.rt:144:5
-loop-less : tie.Need-loop-less Inv-loop μ-loop
-loop-less c = search needs
 
 -- src/main.rt:144:5
-loop-again : tie.Need-loop-again Inv-loop μ-loop
-loop-again c = search needs
 
 -- src/main.rt:141:1
-returns : tie.Need-returns Inv-loop μ-loop
-returns c = search needs
 
 pub checksum-spec : {M : Type 1} → statement M
 checksum-spec =
@@ -50,11 +34,11 @@ checksum-spec =
     (tie.spec
     Inv-loop
     μ-loop
-    loop-holds
-    mul-mixed
-    shared-slice-read-mixed
-    mixed-requires
-    add-i
-    loop-less
-    loop-again
-    returns)
+    (λ c. search needs)
+    (λ c. search needs)
+    (λ c. search needs)
+    (λ c κs. search needs)
+    (λ c. search needs)
+    (λ c. search needs)
+    (λ c. search needs)
+    (λ c. search needs))

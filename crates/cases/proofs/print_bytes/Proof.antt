@@ -13,32 +13,18 @@ abbrev μ-loop : tie.MeasureT-loop
 μ-loop bytes i₀ i = length bytes - i
 
 -- src/main.rt:36:5
-loop-holds : tie.Need-loop-holds Inv-loop μ-loop
-loop-holds c = search needs
 
 -- src/main.rt:37:20
-shared-slice-read-print-byte : tie.Need-shared-slice-read-print-byte Inv-loop μ-loop
-shared-slice-read-print-byte c = search needs
 
 -- src/main.rt:37:9
-print-byte-requires : tie.Need-print-byte-requires Inv-loop μ-loop
-print-byte-requires c κs = search needs
 
 -- src/main.rt:38:9
-add-i : tie.Need-add-i Inv-loop μ-loop
-add-i c = search needs
 
 -- src/main.rt:36:5
-loop-less : tie.Need-loop-less Inv-loop μ-loop
-loop-less c = search needs
 
 -- src/main.rt:36:5
-loop-again : tie.Need-loop-again Inv-loop μ-loop
-loop-again c = search needs
 
 -- src/main.rt:34:1
-returns : tie.Need-returns Inv-loop μ-loop
-returns c = search needs
 
 pub print-bytes-spec : {M : Type 1} → statement M
 print-bytes-spec =
@@ -46,10 +32,10 @@ print-bytes-spec =
     (tie.spec
     Inv-loop
     μ-loop
-    loop-holds
-    shared-slice-read-print-byte
-    print-byte-requires
-    add-i
-    loop-less
-    loop-again
-    returns)
+    (λ c. search needs)
+    (λ c. search needs)
+    (λ c κs. search needs)
+    (λ c. search needs)
+    (λ c. search needs)
+    (λ c. search needs)
+    (λ c. search needs))

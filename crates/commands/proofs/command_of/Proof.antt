@@ -7,78 +7,33 @@ use Rattle.commands.specs.Commands.{commandOf, judgeName, floorName, lis
 use Rattle.commands.proofs.command_of.Statement.{statement}
 use Rattle.commands.proofs.command_of.Tie as tie
 
-slice-aggregate-same : tie.Need-slice-aggregate-same
-slice-aggregate-same c = search needs
-
-same-requires : tie.Need-same-requires
-same-requires c κs = search needs
-
 returns : tie.Need-returns
 unfolding commandOf judgeName floorName listName tableName runName plainName helpName
 returns c = sym (pick-true _ _ _ (sym (c .before .same .ensures) ∙ c .if1 .taken))
-
-slice-aggregate-same-2 : tie.Need-slice-aggregate-same-2
-slice-aggregate-same-2 c = search needs
-
-same-requires-2 : tie.Need-same-requires-2
-same-requires-2 c κs = search needs
 
 returns-2 : tie.Need-returns-2
 unfolding commandOf judgeName floorName listName tableName runName plainName helpName
 returns-2 c = sym (pick-false _ _ _ (sym (c .before .before .before .before .same .ensures) ∙ c .before .before .before .if1 .left) ∙ pick-true _ _ _ (sym (c .before .same2 .ensures) ∙ c .if2 .taken))
 
-slice-aggregate-same-3 : tie.Need-slice-aggregate-same-3
-slice-aggregate-same-3 c = search needs
-
-same-requires-3 : tie.Need-same-requires-3
-same-requires-3 c κs = search needs
-
 returns-3 : tie.Need-returns-3
 unfolding commandOf judgeName floorName listName tableName runName plainName helpName
 returns-3 c = sym (pick-false _ _ _ (sym (c .before .before .before .before .before .before .before .same .ensures) ∙ c .before .before .before .before .before .before .if1 .left) ∙ pick-false _ _ _ (sym (c .before .before .before .before .same2 .ensures) ∙ c .before .before .before .if2 .left) ∙ pick-true _ _ _ (sym (c .before .same3 .ensures) ∙ c .if3 .taken))
-
-slice-aggregate-same-4 : tie.Need-slice-aggregate-same-4
-slice-aggregate-same-4 c = search needs
-
-same-requires-4 : tie.Need-same-requires-4
-same-requires-4 c κs = search needs
 
 returns-4 : tie.Need-returns-4
 unfolding commandOf judgeName floorName listName tableName runName plainName helpName
 returns-4 c = sym (pick-false _ _ _ (sym (c .before .before .before .before .before .before .before .before .before .before .same .ensures) ∙ c .before .before .before .before .before .before .before .before .before .if1 .left) ∙ pick-false _ _ _ (sym (c .before .before .before .before .before .before .before .same2 .ensures) ∙ c .before .before .before .before .before .before .if2 .left) ∙ pick-false _ _ _ (sym (c .before .before .before .before .same3 .ensures) ∙ c .before .before .before .if3 .left) ∙ pick-true _ _ _ (sym (c .before .same4 .ensures) ∙ c .if4 .taken))
 
-slice-aggregate-same-5 : tie.Need-slice-aggregate-same-5
-slice-aggregate-same-5 c = search needs
-
-same-requires-5 : tie.Need-same-requires-5
-same-requires-5 c κs = search needs
-
 returns-5 : tie.Need-returns-5
 unfolding commandOf judgeName floorName listName tableName runName plainName helpName
 returns-5 c = sym (pick-false _ _ _ (sym (c .before .before .before .before .before .before .before .before .before .before .before .before .before .same .ensures) ∙ c .before .before .before .before .before .before .before .before .before .before .before .before .if1 .left) ∙ pick-false _ _ _ (sym (c .before .before .before .before .before .before .before .before .before .before .same2 .ensures) ∙ c .before .before .before .before .before .before .before .before .before .if2 .left) ∙ pick-false _ _ _ (sym (c .before .before .before .before .before .before .before .same3 .ensures) ∙ c .before .before .before .before .before .before .if3 .left) ∙ pick-false _ _ _ (sym (c .before .before .before .before .same4 .ensures) ∙ c .before .before .before .if4 .left) ∙ pick-true _ _ _ (sym (c .before .same5 .ensures) ∙ c .if5 .taken))
-
-slice-aggregate-same-6 : tie.Need-slice-aggregate-same-6
-slice-aggregate-same-6 c = search needs
-
-same-requires-6 : tie.Need-same-requires-6
-same-requires-6 c κs = search needs
 
 returns-6 : tie.Need-returns-6
 unfolding commandOf judgeName floorName listName tableName runName plainName helpName
 returns-6 c = sym (pick-false _ _ _ (sym (c .before .before .before .before .before .before .before .before .before .before .before .before .before .before .before .before .same .ensures) ∙ c .before .before .before .before .before .before .before .before .before .before .before .before .before .before .before .if1 .left) ∙ pick-false _ _ _ (sym (c .before .before .before .before .before .before .before .before .before .before .before .before .before .same2 .ensures) ∙ c .before .before .before .before .before .before .before .before .before .before .before .before .if2 .left) ∙ pick-false _ _ _ (sym (c .before .before .before .before .before .before .before .before .before .before .same3 .ensures) ∙ c .before .before .before .before .before .before .before .before .before .if3 .left) ∙ pick-false _ _ _ (sym (c .before .before .before .before .before .before .before .same4 .ensures) ∙ c .before .before .before .before .before .before .if4 .left) ∙ pick-false _ _ _ (sym (c .before .before .before .before .same5 .ensures) ∙ c .before .before .before .if5 .left) ∙ pick-true _ _ _ (sym (c .before .same6 .ensures) ∙ c .if6 .taken))
 
-slice-aggregate-same-7 : tie.Need-slice-aggregate-same-7
-slice-aggregate-same-7 c = search needs
-
-same-requires-7 : tie.Need-same-requires-7
-same-requires-7 c κs = search needs
-
 returns-7 : tie.Need-returns-7
 unfolding commandOf judgeName floorName listName tableName runName plainName helpName
 returns-7 c = sym (pick-false _ _ _ (sym (c .before .before .before .before .before .before .before .before .before .before .before .before .before .before .before .before .before .before .before .same .ensures) ∙ c .before .before .before .before .before .before .before .before .before .before .before .before .before .before .before .before .before .before .if1 .left) ∙ pick-false _ _ _ (sym (c .before .before .before .before .before .before .before .before .before .before .before .before .before .before .before .before .same2 .ensures) ∙ c .before .before .before .before .before .before .before .before .before .before .before .before .before .before .before .if2 .left) ∙ pick-false _ _ _ (sym (c .before .before .before .before .before .before .before .before .before .before .before .before .before .same3 .ensures) ∙ c .before .before .before .before .before .before .before .before .before .before .before .before .if3 .left) ∙ pick-false _ _ _ (sym (c .before .before .before .before .before .before .before .before .before .before .same4 .ensures) ∙ c .before .before .before .before .before .before .before .before .before .if4 .left) ∙ pick-false _ _ _ (sym (c .before .before .before .before .before .before .before .same5 .ensures) ∙ c .before .before .before .before .before .before .if5 .left) ∙ pick-false _ _ _ (sym (c .before .before .before .before .same6 .ensures) ∙ c .before .before .before .if6 .left) ∙ pick-true _ _ _ (sym (c .before .same7 .ensures) ∙ c .if7 .taken))
-
-rewriting-requires : tie.Need-rewriting-requires
-rewriting-requires c κs = search needs
 
 returns-8 : tie.Need-returns-8
 unfolding commandOf judgeName floorName listName tableName runName plainName helpName
@@ -88,26 +43,26 @@ pub command-of-spec : {M : Type 1} → statement M
 command-of-spec =
     tie.close
     (tie.spec
-    slice-aggregate-same
-    same-requires
+    (λ c. search needs)
+    (λ c κs. search needs)
     returns
-    slice-aggregate-same-2
-    same-requires-2
+    (λ c. search needs)
+    (λ c κs. search needs)
     returns-2
-    slice-aggregate-same-3
-    same-requires-3
+    (λ c. search needs)
+    (λ c κs. search needs)
     returns-3
-    slice-aggregate-same-4
-    same-requires-4
+    (λ c. search needs)
+    (λ c κs. search needs)
     returns-4
-    slice-aggregate-same-5
-    same-requires-5
+    (λ c. search needs)
+    (λ c κs. search needs)
     returns-5
-    slice-aggregate-same-6
-    same-requires-6
+    (λ c. search needs)
+    (λ c κs. search needs)
     returns-6
-    slice-aggregate-same-7
-    same-requires-7
+    (λ c. search needs)
+    (λ c κs. search needs)
     returns-7
-    rewriting-requires
+    (λ c κs. search needs)
     returns-8)

@@ -12,15 +12,6 @@ returns c = (search needs, below-digits _ _ (c .if1 .taken))
 returns-2 : tie.Need-returns-2
 returns-2 c = (search needs, above-digits _ _ (omega arith) (omega arith))
 
-mul-next : tie.Need-mul-next
-mul-next c = search needs
-
-cast-next : tie.Need-cast-next
-cast-next c = search needs
-
-add-next : tie.Need-add-next
-add-next c = search needs
-
 returns-3 : tie.Need-returns-3
 returns-3 c = (search needs, too-large _ _ (omega arith) (omega arith) (omega arith))
 
@@ -29,4 +20,4 @@ returns-4 c = (omega arith, one-digit-more _ _ (omega arith) (omega arith) (omeg
 
 pub longer-spec : {M : Type 1} → statement M
 longer-spec =
-    tie.close (tie.spec returns returns-2 mul-next cast-next add-next returns-3 returns-4)
+    tie.close (tie.spec returns returns-2 (λ c. search needs) (λ c. search needs) (λ c. search needs) returns-3 returns-4)

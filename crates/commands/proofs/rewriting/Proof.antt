@@ -7,41 +7,17 @@ use Rattle.commands.specs.Commands.{rewritingOf, fitName, firstName, rot
 use Rattle.commands.proofs.rewriting.Statement.{statement}
 use Rattle.commands.proofs.rewriting.Tie as tie
 
-slice-aggregate-same : tie.Need-slice-aggregate-same
-slice-aggregate-same c = search needs
-
-same-requires : tie.Need-same-requires
-same-requires c κs = search needs
-
 returns : tie.Need-returns
 unfolding rewritingOf fitName firstName rotateName searchName
 returns c = sym (pick-true _ _ _ (sym (c .before .same .ensures) ∙ c .if1 .taken))
-
-slice-aggregate-same-2 : tie.Need-slice-aggregate-same-2
-slice-aggregate-same-2 c = search needs
-
-same-requires-2 : tie.Need-same-requires-2
-same-requires-2 c κs = search needs
 
 returns-2 : tie.Need-returns-2
 unfolding rewritingOf fitName firstName rotateName searchName
 returns-2 c = sym (pick-false _ _ _ (sym (c .before .before .before .before .same .ensures) ∙ c .before .before .before .if1 .left) ∙ pick-true _ _ _ (sym (c .before .same2 .ensures) ∙ c .if2 .taken))
 
-slice-aggregate-same-3 : tie.Need-slice-aggregate-same-3
-slice-aggregate-same-3 c = search needs
-
-same-requires-3 : tie.Need-same-requires-3
-same-requires-3 c κs = search needs
-
 returns-3 : tie.Need-returns-3
 unfolding rewritingOf fitName firstName rotateName searchName
 returns-3 c = sym (pick-false _ _ _ (sym (c .before .before .before .before .before .before .before .same .ensures) ∙ c .before .before .before .before .before .before .if1 .left) ∙ pick-false _ _ _ (sym (c .before .before .before .before .same2 .ensures) ∙ c .before .before .before .if2 .left) ∙ pick-true _ _ _ (sym (c .before .same3 .ensures) ∙ c .if3 .taken))
-
-slice-aggregate-same-4 : tie.Need-slice-aggregate-same-4
-slice-aggregate-same-4 c = search needs
-
-same-requires-4 : tie.Need-same-requires-4
-same-requires-4 c κs = search needs
 
 returns-4 : tie.Need-returns-4
 unfolding rewritingOf fitName firstName rotateName searchName
@@ -55,16 +31,16 @@ pub rewriting-spec : {M : Type 1} → statement M
 rewriting-spec =
     tie.close
     (tie.spec
-    slice-aggregate-same
-    same-requires
+    (λ c. search needs)
+    (λ c κs. search needs)
     returns
-    slice-aggregate-same-2
-    same-requires-2
+    (λ c. search needs)
+    (λ c κs. search needs)
     returns-2
-    slice-aggregate-same-3
-    same-requires-3
+    (λ c. search needs)
+    (λ c κs. search needs)
     returns-3
-    slice-aggregate-same-4
-    same-requires-4
+    (λ c. search needs)
+    (λ c κs. search needs)
     returns-4
     returns-5)

@@ -22,20 +22,8 @@ returns c = other-length _ _ (c .if1 .taken)
 loop-holds : tie.Need-loop-holds Inv-loop μ-loop
 loop-holds c = (omega arith, omega arith, refl)
 
-shared-slice-read-if2 : tie.Need-shared-slice-read-if2 Inv-loop μ-loop
-shared-slice-read-if2 c = search needs
-
-shared-slice-read-if2-2 : tie.Need-shared-slice-read-if2-2 Inv-loop μ-loop
-shared-slice-read-if2-2 c = search needs
-
 returns-2 : tie.Need-returns-2 Inv-loop μ-loop
 returns-2 c = other-byte _ _ _ (c .before .before .before .before .loop .inv .1) (c .before .before .before .loop-test .taken) (c .before .before .before .before .loop .inv .2) (c .if2 .taken)
-
-add-i : tie.Need-add-i Inv-loop μ-loop
-add-i c = search needs
-
-loop-less : tie.Need-loop-less Inv-loop μ-loop
-loop-less c = search needs
 
 loop-again : tie.Need-loop-again Inv-loop μ-loop
 loop-again c = (search needs, search needs, same-more _ _ _ (c .before .before .before .before .loop .inv .1) (c .before .before .before .loop-test .taken) (c .before .before .before .before .loop .inv .2) (omega arith))
@@ -51,10 +39,10 @@ same-spec =
     μ-loop
     returns
     loop-holds
-    shared-slice-read-if2
-    shared-slice-read-if2-2
+    (λ c. search needs)
+    (λ c. search needs)
     returns-2
-    add-i
-    loop-less
+    (λ c. search needs)
+    (λ c. search needs)
     loop-again
     returns-3)

@@ -16,20 +16,11 @@ Inv-loop nodes edges tails heads gains costs best₀ at₀ node₀ best at node 
 abbrev μ-loop : tie.MeasureT-loop
 μ-loop nodes edges tails heads gains costs best₀ at₀ node₀ best at node = nodes - node
 
-add-best : tie.Need-add-best Inv-loop μ-loop
-add-best c = search needs
-
 loop-holds : tie.Need-loop-holds Inv-loop μ-loop
 loop-holds c = (omega arith, best-none _ _ _)
 
 fewest-at-requires : tie.Need-fewest-at-requires Inv-loop μ-loop
 fewest-at-requires c κs = let p = c .before .before .pre in (p .0, omega arith, omega arith, omega arith)
-
-add-node : tie.Need-add-node Inv-loop μ-loop
-add-node c = search needs
-
-loop-less : tie.Need-loop-less Inv-loop μ-loop
-loop-less c = search needs
 
 loop-again : tie.Need-loop-again Inv-loop μ-loop
 loop-again c =
@@ -51,10 +42,10 @@ best-start-spec =
     (tie.spec
     Inv-loop
     μ-loop
-    add-best
+    (λ c. search needs)
     loop-holds
     fewest-at-requires
-    add-node
-    loop-less
+    (λ c. search needs)
+    (λ c. search needs)
     loop-again
     returns)

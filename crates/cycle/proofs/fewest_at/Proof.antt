@@ -18,9 +18,6 @@ Inv-loop edges tails heads gains costs node limit row₀ k₀ row k =
 abbrev μ-loop : tie.MeasureT-loop
 μ-loop edges tails heads gains costs node limit row₀ k₀ row k = limit - k
 
-first-row-requires : tie.Need-first-row-requires Inv-loop μ-loop
-first-row-requires c κs = search needs
-
 loop-holds : tie.Need-loop-holds Inv-loop μ-loop
 loop-holds c = (omega arith, omega arith, rw (c .first-row .ensures) (row-none _ 64 _ (c .before .pre .1)), none-below-one _ _)
 
@@ -37,23 +34,11 @@ next c =
     let same : (i .loop .k - 1) + 1 ≡ i .loop .k = omega arith in
     rw same at (row-more _ _ _ _ _ (i .loop .inv .2) (c .next-row .ensures))
 
-mul-if1 : tie.Need-mul-if1 Inv-loop μ-loop
-mul-if1 c = search needs
-
-array-read-if1 : tie.Need-array-read-if1 Inv-loop μ-loop
-array-read-if1 c = search needs
-
 returns : tie.Need-returns Inv-loop μ-loop
 returns c =
     let d = c .before in
     let i = d .before .before .before in
     record { some = omega arith; within = omega arith; fewer = i .loop .inv .3; found = λ l. loses _ _ _ _ (next d) (c .if1 .taken) (omega arith) }
-
-add-k : tie.Need-add-k Inv-loop μ-loop
-add-k c = search needs
-
-loop-less : tie.Need-loop-less Inv-loop μ-loop
-loop-less c = search needs
 
 loop-again : tie.Need-loop-again Inv-loop μ-loop
 loop-again c =
@@ -72,13 +57,13 @@ fewest-at-spec =
     (tie.spec
     Inv-loop
     μ-loop
-    first-row-requires
+    (λ c κs. search needs)
     loop-holds
     next-row-requires
-    mul-if1
-    array-read-if1
+    (λ c. search needs)
+    (λ c. search needs)
     returns
-    add-k
-    loop-less
+    (λ c. search needs)
+    (λ c. search needs)
     loop-again
     returns-2)

@@ -35,35 +35,14 @@ ahead : (c : tie.In-loop Inv-loop μ-loop) → getD (c .before .before .args .he
 unfolding systemOf
 ahead c = c .before .before .pre .0 .joined .heads (c .before .loop .e) (c .loop-test .taken)
 
-cast-i : tie.Need-cast-i Inv-loop μ-loop
-cast-i c = search needs
-
-element-copy-out-v : tie.Need-element-copy-out-v Inv-loop μ-loop
-element-copy-out-v c = search needs
-
 cast-v : tie.Need-cast-v Inv-loop μ-loop
 cast-v c = omega (arith, ahead (c .before))
-
-element-copy-out-if1 : tie.Need-element-copy-out-if1 Inv-loop μ-loop
-element-copy-out-if1 c = search needs
 
 mul-gives : tie.Need-mul-gives Inv-loop μ-loop
 mul-gives c = omega (arith, ahead (c .before .before .before))
 
 element-copy-out-gives : tie.Need-element-copy-out-gives Inv-loop μ-loop
 element-copy-out-gives c = omega (arith, ahead (c .before .before .before))
-
-mul-gives-2 : tie.Need-mul-gives-2 Inv-loop μ-loop
-mul-gives-2 c = search needs
-
-element-copy-out-gives-2 : tie.Need-element-copy-out-gives-2 Inv-loop μ-loop
-element-copy-out-gives-2 c = search needs
-
-mul-gives-3 : tie.Need-mul-gives-3 Inv-loop μ-loop
-mul-gives-3 c = search needs
-
-element-copy-out-gives-3 : tie.Need-element-copy-out-gives-3 Inv-loop μ-loop
-element-copy-out-gives-3 c = search needs
 
 gives-requires : tie.Need-gives-requires Inv-loop μ-loop
 gives-requires c κs = let s = c .before .before .before .before .before .before .before .before in (s .pre .1 _, s .pre .2)
@@ -77,12 +56,6 @@ returns c =
       first = g .before .before .before .before .loop .inv .1;
       found = λ l. (g .if1 .taken, leb-true _ _ (sym (c .before .gives .ensures .0) ∙ c .if2 .taken), c .before .gives .ensures .1 (c .if2 .taken));
     }
-
-add-e : tie.Need-add-e Inv-loop μ-loop
-add-e c = search needs
-
-loop-less : tie.Need-loop-less Inv-loop μ-loop
-loop-less c = search needs
 
 loop-again : tie.Need-loop-again Inv-loop μ-loop
 unfolding systemOf
@@ -103,19 +76,19 @@ next-edge-spec =
     Inv-loop
     μ-loop
     loop-holds
-    cast-i
-    element-copy-out-v
+    (λ c. search needs)
+    (λ c. search needs)
     cast-v
-    element-copy-out-if1
+    (λ c. search needs)
     mul-gives
     element-copy-out-gives
-    mul-gives-2
-    element-copy-out-gives-2
-    mul-gives-3
-    element-copy-out-gives-3
+    (λ c. search needs)
+    (λ c. search needs)
+    (λ c. search needs)
+    (λ c. search needs)
     gives-requires
     returns
-    add-e
-    loop-less
+    (λ c. search needs)
+    (λ c. search needs)
     loop-again
     returns-2)

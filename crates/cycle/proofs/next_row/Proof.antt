@@ -29,17 +29,8 @@ ends c =
     let j = c .before .before .pre .0 .joined in
     (j .tails (c .before .loop .e) (c .loop-test .taken), j .heads (c .before .loop .e) (c .loop-test .taken))
 
-cast-i : tie.Need-cast-i Inv-loop μ-loop
-cast-i c = search needs
-
-element-copy-out-u : tie.Need-element-copy-out-u Inv-loop μ-loop
-element-copy-out-u c = search needs
-
 cast-u : tie.Need-cast-u Inv-loop μ-loop
 cast-u c = omega (arith, ends (c .before))
-
-element-copy-out-v : tie.Need-element-copy-out-v Inv-loop μ-loop
-element-copy-out-v c = search needs
 
 cast-v : tie.Need-cast-v Inv-loop μ-loop
 cast-v c = omega (arith, ends (c .before .before))
@@ -56,35 +47,14 @@ mul-carried c = omega (arith, ends (c .before .before))
 element-copy-out-carried : tie.Need-element-copy-out-carried Inv-loop μ-loop
 element-copy-out-carried c = omega (arith, ends (c .before .before))
 
-mul-carried-2 : tie.Need-mul-carried-2 Inv-loop μ-loop
-mul-carried-2 c = search needs
-
-element-copy-out-carried-2 : tie.Need-element-copy-out-carried-2 Inv-loop μ-loop
-element-copy-out-carried-2 c = search needs
-
-mul-carried-3 : tie.Need-mul-carried-3 Inv-loop μ-loop
-mul-carried-3 c = search needs
-
-element-copy-out-carried-3 : tie.Need-element-copy-out-carried-3 Inv-loop μ-loop
-element-copy-out-carried-3 c = search needs
-
 carried-requires : tie.Need-carried-requires Inv-loop μ-loop
 carried-requires c κs = c .before .before .before .before .before .before .before .pre .1 _
-
-larger-requires : tie.Need-larger-requires Inv-loop μ-loop
-larger-requires c κs = search needs
 
 mul-next : tie.Need-mul-next Inv-loop μ-loop
 mul-next c = omega (arith, ends (c .before .before .before .before .before .before .before))
 
 array-write-next : tie.Need-array-write-next Inv-loop μ-loop
 array-write-next c = omega (arith, ends (c .before .before .before .before .before .before .before))
-
-add-e : tie.Need-add-e Inv-loop μ-loop
-add-e c = search needs
-
-loop-less : tie.Need-loop-less Inv-loop μ-loop
-loop-less c = search needs
 
 loop-again : tie.Need-loop-again Inv-loop μ-loop
 unfolding systemOf
@@ -109,24 +79,24 @@ next-row-spec =
     Inv-loop
     μ-loop
     loop-holds
-    cast-i
-    element-copy-out-u
+    (λ c. search needs)
+    (λ c. search needs)
     cast-u
-    element-copy-out-v
+    (λ c. search needs)
     cast-v
     mul-larger
     array-read-larger
     mul-carried
     element-copy-out-carried
-    mul-carried-2
-    element-copy-out-carried-2
-    mul-carried-3
-    element-copy-out-carried-3
+    (λ c. search needs)
+    (λ c. search needs)
+    (λ c. search needs)
+    (λ c. search needs)
     carried-requires
-    larger-requires
+    (λ c κs. search needs)
     mul-next
     array-write-next
-    add-e
-    loop-less
+    (λ c. search needs)
+    (λ c. search needs)
     loop-again
     returns)

@@ -16,20 +16,11 @@ Inv-loop edges tails heads gains costs target count row₀ k₀ row k = (k ≤ c
 abbrev μ-loop : tie.MeasureT-loop
 μ-loop edges tails heads gains costs target count row₀ k₀ row k = count - k
 
-first-row-requires : tie.Need-first-row-requires Inv-loop μ-loop
-first-row-requires c κs = search needs
-
 loop-holds : tie.Need-loop-holds Inv-loop μ-loop
 loop-holds c = (omega arith, rw (c .first-row .ensures) (row-none _ 64 _ (c .before .pre .1)))
 
 next-row-requires : tie.Need-next-row-requires Inv-loop μ-loop
 next-row-requires c κs = let i = c .before .before in let p = i .before .before .pre in (p .0, λ v. omega (arith, i .loop .inv .1 .cap v))
-
-add-k : tie.Need-add-k Inv-loop μ-loop
-add-k c = search needs
-
-loop-less : tie.Need-loop-less Inv-loop μ-loop
-loop-less c = search needs
 
 loop-again : tie.Need-loop-again Inv-loop μ-loop
 unfolding systemOf
@@ -48,10 +39,10 @@ row-of-spec =
     (tie.spec
     Inv-loop
     μ-loop
-    first-row-requires
+    (λ c κs. search needs)
     loop-holds
     next-row-requires
-    add-k
-    loop-less
+    (λ c. search needs)
+    (λ c. search needs)
     loop-again
     returns)

@@ -21,19 +21,10 @@ Inv-loop edges tails heads gains costs start count found₀ node₀ value₀ i�
 abbrev μ-loop : tie.MeasureT-loop
 μ-loop edges tails heads gains costs start count found₀ node₀ value₀ i₀ found node value i = count - i
 
-add-value : tie.Need-add-value Inv-loop μ-loop
-add-value c = search needs
-
 loop-holds : tie.Need-loop-holds Inv-loop μ-loop
 loop-holds c =
     let all : c .args .count ≡ c .args .count - 0 = omega arith in
     (omega arith, search needs, omega arith, rw all at (walked-none _ 64 _ _ (c .pre .2) (c .pre .3)))
-
-sub-row-of : tie.Need-sub-row-of Inv-loop μ-loop
-sub-row-of c = search needs
-
-sub-row-of-2 : tie.Need-sub-row-of-2 Inv-loop μ-loop
-sub-row-of-2 c = search needs
 
 row-of-requires : tie.Need-row-of-requires Inv-loop μ-loop
 row-of-requires c κs = let p = c .before .before .pre in (p .0, p .1, omega arith)
@@ -63,15 +54,6 @@ ahead c =
     let inside = edge-in _ _ _ _ _ _ _ (here (d .before) .onward) (d .row-of .ensures) (c .next-edge .ensures) in
     (inside, d .before .before .before .pre .0 .joined .heads (c .next-edge .result) inside)
 
-cast-found : tie.Need-cast-found Inv-loop μ-loop
-cast-found c = search needs
-
-mul-found : tie.Need-mul-found Inv-loop μ-loop
-mul-found c = search needs
-
-array-write-found : tie.Need-array-write-found Inv-loop μ-loop
-array-write-found c = search needs
-
 cast-node : tie.Need-cast-node Inv-loop μ-loop
 cast-node c = omega (arith, ahead c)
 
@@ -86,12 +68,6 @@ mul-value c = omega (arith, ahead (c .before))
 
 array-read-value : tie.Need-array-read-value Inv-loop μ-loop
 array-read-value c = omega (arith, ahead (c .before))
-
-add-i : tie.Need-add-i Inv-loop μ-loop
-add-i c = search needs
-
-loop-less : tie.Need-loop-less Inv-loop μ-loop
-loop-less c = search needs
 
 loop-again : tie.Need-loop-again Inv-loop μ-loop
 unfolding systemOf
@@ -123,21 +99,21 @@ walk-of-spec =
     (tie.spec
     Inv-loop
     μ-loop
-    add-value
+    (λ c. search needs)
     loop-holds
-    sub-row-of
-    sub-row-of-2
+    (λ c. search needs)
+    (λ c. search needs)
     row-of-requires
     next-edge-requires
-    cast-found
-    mul-found
-    array-write-found
+    (λ c. search needs)
+    (λ c. search needs)
+    (λ c. search needs)
     cast-node
     element-copy-out-node
     cast-value
     mul-value
     array-read-value
-    add-i
-    loop-less
+    (λ c. search needs)
+    (λ c. search needs)
     loop-again
     returns)

@@ -9,41 +9,20 @@ use Rattle.drawing.proofs.Whole.{refused-draw, cramped, fits}
 use Rattle.drawing.proofs.draw.Statement.{statement}
 use Rattle.drawing.proofs.draw.Tie as tie
 
-read-requires : tie.Need-read-requires
-read-requires c κs = search tests
-
-is-fine-requires : tie.Need-is-fine-requires
-is-fine-requires c κs = search tests
-
 returns : tie.Need-returns
 returns c = refused-draw _ _ (c .before .before .read .ensures) _ (sym (c .before .is-fine .ensures) ∙ not-true _ (c .if1 .taken))
 
 times-of-requires : tie.Need-times-of-requires
 times-of-requires c κs = (read-good (c .before .before .before .before .before .args .«record» .now) _ (c .before .before .read .ensures) (λ i. omega (arith, (c .before .before .before .before .shared-slice-known .given) i)) (sym (c .before .is-fine .ensures) ∙ not-false _ (c .if1 .left)))
 
-slice-relend-prefix-put-table : tie.Need-slice-relend-prefix-put-table
-slice-relend-prefix-put-table c = search tests
-
-slice-aggregate-put-table : tie.Need-slice-aggregate-put-table
-slice-aggregate-put-table c = search tests
-
 put-table-requires : tie.Need-put-table-requires
 put-table-requires c κs = record { form = (c .before .before .before .before .read .result .form); good = (read-good (c .before .before .before .before .before .before .before .args .«record» .now) _ (c .before .before .before .before .read .ensures) (λ i. omega (arith, (c .before .before .before .before .before .before .shared-slice-known .given) i)) (sym (c .before .before .before .is-fine .ensures) ∙ not-false _ (c .before .before .if1 .left))); is = (c .before .times-of .ensures) }
-
-same-length : tie.Need-same-length
-same-length c = search tests
 
 returns-2 : tie.Need-returns-2
 returns-2 c = cramped _ _ (c .before .before .before .before .before .before .before .before .read .ensures) (sym (c .before .before .before .before .before .before .before .is-fine .ensures) ∙ not-false _ (c .before .before .before .before .before .before .if1 .left)) _ _ _ ((c .before .before .before .put-table .ensures .1) _ (c .before .before .before .before .before .times-of .ensures)) (omega (arith, c .if2 .taken))
 
 put-table-requires-2 : tie.Need-put-table-requires-2
 put-table-requires-2 c κs = record { form = (c .before .before .before .before .before .before .before .before .before .read .result .form); good = (read-good (c .before .before .before .before .before .before .before .before .before .before .before .before .args .«record» .now) _ (c .before .before .before .before .before .before .before .before .before .read .ensures) (λ i. omega (arith, (c .before .before .before .before .before .before .before .before .before .before .before .shared-slice-known .given) i)) (sym (c .before .before .before .before .before .before .before .before .is-fine .ensures) ∙ not-false _ (c .before .before .before .before .before .before .before .if1 .left))); is = (c .before .before .before .before .before .before .times-of .ensures) }
-
-cast-result : tie.Need-cast-result
-cast-result c = search tests
-
-same-length-2 : tie.Need-same-length-2
-same-length-2 c = search tests
 
 returns-3 : tie.Need-returns-3
 returns-3 c = fits _ _ (c .before .before .before .before .before .before .before .before .before .before .before .before .read .ensures) (sym (c .before .before .before .before .before .before .before .before .before .before .before .is-fine .ensures) ∙ not-false _ (c .before .before .before .before .before .before .before .before .before .before .if1 .left)) _ _ _ ((c .before .before .before .before .before .before .before .put-table .ensures .1) _ (c .before .before .before .before .before .before .before .before .before .times-of .ensures)) _ _ (omega (arith, c .before .before .before .before .if2 .left)) ((c .before .before .put-table2 .ensures .1) _ (c .before .before .before .before .before .before .before .before .before .times-of .ensures))
@@ -52,16 +31,16 @@ pub draw-spec : {M : Type 1} → statement M
 draw-spec =
     tie.close
     (tie.spec
-    read-requires
-    is-fine-requires
+    (λ c κs. search tests)
+    (λ c κs. search tests)
     returns
     times-of-requires
-    slice-relend-prefix-put-table
-    slice-aggregate-put-table
+    (λ c. search tests)
+    (λ c. search tests)
     put-table-requires
-    same-length
+    (λ c. search tests)
     returns-2
     put-table-requires-2
-    cast-result
-    same-length-2
+    (λ c. search tests)
+    (λ c. search tests)
     returns-3)

@@ -19,15 +19,6 @@ abbrev μ-loop : tie.MeasureT-loop
 loop-holds : tie.Need-loop-holds Inv-loop μ-loop
 loop-holds c = (search tests, search tests, no-blank _ _)
 
-put-byte-requires : tie.Need-put-byte-requires Inv-loop μ-loop
-put-byte-requires c κs = search tests
-
-add-i : tie.Need-add-i Inv-loop μ-loop
-add-i c = search tests
-
-loop-less : tie.Need-loop-less Inv-loop μ-loop
-loop-less c = search tests
-
 loop-again : tie.Need-loop-again Inv-loop μ-loop
 loop-again c = (search tests, search tests, blank-more _ _ _ _ _ _ _ (c .before .before .before .before .before .loop .inv .2) (c .before .before .put-byte .ensures .1))
 
@@ -44,9 +35,9 @@ put-blanks-spec =
     Inv-loop
     μ-loop
     loop-holds
-    put-byte-requires
-    add-i
-    loop-less
+    (λ c κs. search tests)
+    (λ c. search tests)
+    (λ c. search tests)
     loop-again
     same-length
     returns)

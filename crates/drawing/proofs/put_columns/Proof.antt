@@ -26,29 +26,11 @@ loop-holds : tie.Need-loop-holds Inv-loop μ-loop
 unfolding rows
 loop-holds c = (search tests, search tests, search tests, λ f t k. nothing _ _)
 
-cast-row : tie.Need-cast-row Inv-loop μ-loop
-cast-row c = search tests
-
-mul-row : tie.Need-mul-row Inv-loop μ-loop
-mul-row c = search tests
-
-array-copy-out-row : tie.Need-array-copy-out-row Inv-loop μ-loop
-array-copy-out-row c = search tests
-
 put-places-requires : tie.Need-put-places-requires Inv-loop μ-loop
 put-places-requires c κs = let p = c .before .before .before .before .before .pre in (search tests, search tests, p .2, p .3, p .4, p .5 .units _ (omega arith))
 
-add-c : tie.Need-add-c Inv-loop μ-loop
-add-c c = search tests
-
-loop-less : tie.Need-loop-less Inv-loop μ-loop
-loop-less c = search tests
-
 loop-again : tie.Need-loop-again Inv-loop μ-loop
 loop-again c = (search tests, search tests, search tests, λ f t k. row-more _ _ _ _ _ _ _ _ ((c .before .before .before .before .before .before .loop .inv .3) f t k) ((c .before .before .put-places .ensures .1) f t (ap (λ x. getD x (c .before .before .before .before .before .before .loop .c) noClass) k)))
-
-same-length : tie.Need-same-length Inv-loop μ-loop
-same-length c = search tests
 
 returns : tie.Need-returns Inv-loop μ-loop
 returns c = (search tests, λ f t k. rows-whole _ _ _ _ _ _ _ (c .before .loop .inv .3 f t k) (omega arith))
@@ -60,12 +42,12 @@ put-columns-spec =
     Inv-loop
     μ-loop
     loop-holds
-    cast-row
-    mul-row
-    array-copy-out-row
+    (λ c. search tests)
+    (λ c. search tests)
+    (λ c. search tests)
     put-places-requires
-    add-c
-    loop-less
+    (λ c. search tests)
+    (λ c. search tests)
     loop-again
-    same-length
+    (λ c. search tests)
     returns)

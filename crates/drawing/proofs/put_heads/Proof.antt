@@ -22,23 +22,8 @@ loop-holds : tie.Need-loop-holds Inv-loop μ-loop
 unfolding rows
 loop-holds c = (search tests, search tests, nothing _ _)
 
-cast-row : tie.Need-cast-row Inv-loop μ-loop
-cast-row c = search tests
-
-mul-row : tie.Need-mul-row Inv-loop μ-loop
-mul-row c = search tests
-
-array-copy-out-row : tie.Need-array-copy-out-row Inv-loop μ-loop
-array-copy-out-row c = search tests
-
 put-head-requires : tie.Need-put-head-requires Inv-loop μ-loop
 put-head-requires c κs = (search tests, (c .before .before .before .before .before .pre .1 .units) _ (omega arith))
-
-add-c : tie.Need-add-c Inv-loop μ-loop
-add-c c = search tests
-
-loop-less : tie.Need-loop-less Inv-loop μ-loop
-loop-less c = search tests
 
 loop-again : tie.Need-loop-again Inv-loop μ-loop
 loop-again c = (search tests, search tests, row-more _ _ _ _ _ _ _ _ (c .before .before .before .before .before .before .loop .inv .2) (c .before .before .put-head .ensures .1))
@@ -56,12 +41,12 @@ put-heads-spec =
     Inv-loop
     μ-loop
     loop-holds
-    cast-row
-    mul-row
-    array-copy-out-row
+    (λ c. search tests)
+    (λ c. search tests)
+    (λ c. search tests)
     put-head-requires
-    add-c
-    loop-less
+    (λ c. search tests)
+    (λ c. search tests)
     loop-again
     same-length
     returns)

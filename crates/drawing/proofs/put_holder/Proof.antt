@@ -5,15 +5,6 @@ use Rattle.drawing.proofs.Laws.{tests, place-here, place-elsewhere}
 use Rattle.drawing.proofs.put_holder.Statement.{statement}
 use Rattle.drawing.proofs.put_holder.Tie as tie
 
-holds-in-requires : tie.Need-holds-in-requires
-holds-in-requires c κs = search tests
-
-put-held-requires : tie.Need-put-held-requires
-put-held-requires c κs = search tests
-
-same-length : tie.Need-same-length
-same-length c = search tests
-
 returns : tie.Need-returns
 unfolding heldPlace
 returns c = (search tests, place-here _ _ _ _ _ (c .before .before .before .before .before .holds-in .ensures) _ _ (c .before .before .before .before .if1 .taken) (c .before .before .put-held .ensures .1))
@@ -24,4 +15,4 @@ returns-2 c = (search tests, place-elsewhere _ _ _ _ _ (c .before .holds-in .ens
 
 pub put-holder-spec : {M : Type 1} → statement M
 put-holder-spec =
-    tie.close (tie.spec holds-in-requires put-held-requires same-length returns returns-2)
+    tie.close (tie.spec (λ c κs. search tests) (λ c κs. search tests) (λ c. search tests) returns returns-2)

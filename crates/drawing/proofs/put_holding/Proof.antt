@@ -21,27 +21,6 @@ loop-holds : tie.Need-loop-holds Inv-loop μ-loop
 unfolding rows
 loop-holds c = (search tests, search tests, nothing _ _)
 
-cast-put-holder : tie.Need-cast-put-holder Inv-loop μ-loop
-cast-put-holder c = search tests
-
-element-copy-out-put-holder : tie.Need-element-copy-out-put-holder Inv-loop μ-loop
-element-copy-out-put-holder c = search tests
-
-mul-put-holder : tie.Need-mul-put-holder Inv-loop μ-loop
-mul-put-holder c = search tests
-
-element-copy-out-put-holder-2 : tie.Need-element-copy-out-put-holder-2 Inv-loop μ-loop
-element-copy-out-put-holder-2 c = search tests
-
-put-holder-requires : tie.Need-put-holder-requires Inv-loop μ-loop
-put-holder-requires c κs = search tests
-
-add-i : tie.Need-add-i Inv-loop μ-loop
-add-i c = search tests
-
-loop-less : tie.Need-loop-less Inv-loop μ-loop
-loop-less c = search tests
-
 loop-again : tie.Need-loop-again Inv-loop μ-loop
 loop-again c = (search tests, search tests, row-more _ _ _ _ _ _ _ _ (c .before .before .before .before .before .before .before .loop .inv .2) (c .before .before .put-holder .ensures .1))
 
@@ -58,13 +37,13 @@ put-holding-spec =
     Inv-loop
     μ-loop
     loop-holds
-    cast-put-holder
-    element-copy-out-put-holder
-    mul-put-holder
-    element-copy-out-put-holder-2
-    put-holder-requires
-    add-i
-    loop-less
+    (λ c. search tests)
+    (λ c. search tests)
+    (λ c. search tests)
+    (λ c. search tests)
+    (λ c κs. search tests)
+    (λ c. search tests)
+    (λ c. search tests)
     loop-again
     same-length
     returns)

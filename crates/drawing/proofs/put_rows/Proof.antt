@@ -25,9 +25,6 @@ loop-holds : tie.Need-loop-holds Inv-loop μ-loop
 unfolding rows
 loop-holds c = (search tests, search tests, search tests, λ f e. nothing _ _)
 
-add-put-row : tie.Need-add-put-row Inv-loop μ-loop
-add-put-row c = search tests
-
 put-row-requires : tie.Need-put-row-requires Inv-loop μ-loop
 put-row-requires c κs =
     let l = c .before .before .before .before .before .before in
@@ -41,17 +38,8 @@ put-row-requires c κs =
       tabled-narrow _ p,
     )
 
-add-i : tie.Need-add-i Inv-loop μ-loop
-add-i c = search tests
-
-loop-less : tie.Need-loop-less Inv-loop μ-loop
-loop-less c = search tests
-
 loop-again : tie.Need-loop-again Inv-loop μ-loop
 loop-again c = (search tests, search tests, search tests, λ f e. row-more _ _ _ _ _ _ _ _ ((c .before .before .before .before .before .before .before .before .before .loop .inv .3) f e) ((c .before .before .put-row .ensures .1) f (times-noted f _ e) (times-class f _ e) (times-classes f _ e)))
-
-same-length : tie.Need-same-length Inv-loop μ-loop
-same-length c = search tests
 
 returns : tie.Need-returns Inv-loop μ-loop
 returns c = (omega (arith, (c .before .loop .inv .1), tabled-length _ (c .before .before .before .before .pre .1)), λ f e. rows-whole _ _ _ _ _ _ _ (c .before .loop .inv .3 f e) (omega (arith, times-length f _ e)))
@@ -63,10 +51,10 @@ put-rows-spec =
     Inv-loop
     μ-loop
     loop-holds
-    add-put-row
+    (λ c. search tests)
     put-row-requires
-    add-i
-    loop-less
+    (λ c. search tests)
+    (λ c. search tests)
     loop-again
-    same-length
+    (λ c. search tests)
     returns)

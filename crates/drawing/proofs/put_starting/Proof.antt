@@ -21,30 +21,6 @@ loop-holds : tie.Need-loop-holds Inv-loop μ-loop
 unfolding rows
 loop-holds c = (search tests, search tests, nothing _ _)
 
-cast-put-starter : tie.Need-cast-put-starter Inv-loop μ-loop
-cast-put-starter c = search tests
-
-element-copy-out-put-starter : tie.Need-element-copy-out-put-starter Inv-loop μ-loop
-element-copy-out-put-starter c = search tests
-
-mul-put-starter : tie.Need-mul-put-starter Inv-loop μ-loop
-mul-put-starter c = search tests
-
-element-copy-out-put-starter-2 : tie.Need-element-copy-out-put-starter-2 Inv-loop μ-loop
-element-copy-out-put-starter-2 c = search tests
-
-element-copy-out-put-starter-3 : tie.Need-element-copy-out-put-starter-3 Inv-loop μ-loop
-element-copy-out-put-starter-3 c = search tests
-
-put-starter-requires : tie.Need-put-starter-requires Inv-loop μ-loop
-put-starter-requires c κs = search tests
-
-add-i : tie.Need-add-i Inv-loop μ-loop
-add-i c = search tests
-
-loop-less : tie.Need-loop-less Inv-loop μ-loop
-loop-less c = search tests
-
 loop-again : tie.Need-loop-again Inv-loop μ-loop
 loop-again c =
     let l = c .before .before .before .before .before .before .before .before in
@@ -64,14 +40,14 @@ put-starting-spec =
     Inv-loop
     μ-loop
     loop-holds
-    cast-put-starter
-    element-copy-out-put-starter
-    mul-put-starter
-    element-copy-out-put-starter-2
-    element-copy-out-put-starter-3
-    put-starter-requires
-    add-i
-    loop-less
+    (λ c. search tests)
+    (λ c. search tests)
+    (λ c. search tests)
+    (λ c. search tests)
+    (λ c. search tests)
+    (λ c κs. search tests)
+    (λ c. search tests)
+    (λ c. search tests)
     loop-again
     same-length
     returns)

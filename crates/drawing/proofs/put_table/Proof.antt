@@ -9,23 +9,11 @@ use Rattle.drawing.proofs.put_table.Tie as tie
 put-classes-requires : tie.Need-put-classes-requires
 put-classes-requires c κs = (search tests, tabled-narrow _ (c .before .before .before .pre) .few)
 
-slice-aggregate-put-word : tie.Need-slice-aggregate-put-word
-slice-aggregate-put-word c = search tests
-
-put-word-requires : tie.Need-put-word-requires
-put-word-requires c κs = search tests
-
 put-heads-requires : tie.Need-put-heads-requires
 put-heads-requires c κs = (search tests, tabled-narrow _ (c .before .before .before .before .before .before .before .before .before .before .before .before .pre))
 
-put-byte-requires : tie.Need-put-byte-requires
-put-byte-requires c κs = search tests
-
 put-rows-requires : tie.Need-put-rows-requires
 put-rows-requires c κs = (search tests, (c .before .before .before .before .before .before .before .before .before .before .before .before .before .before .before .before .before .before .before .before .pre))
-
-same-length : tie.Need-same-length
-same-length c = search tests
 
 returns : tie.Need-returns
 unfolding stepWord
@@ -36,10 +24,10 @@ put-table-spec =
     tie.close
     (tie.spec
     put-classes-requires
-    slice-aggregate-put-word
-    put-word-requires
+    (λ c. search tests)
+    (λ c κs. search tests)
     put-heads-requires
-    put-byte-requires
+    (λ c κs. search tests)
     put-rows-requires
-    same-length
+    (λ c. search tests)
     returns)

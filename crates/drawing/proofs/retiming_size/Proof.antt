@@ -8,14 +8,8 @@ use Rattle.drawing.proofs.retiming_size.Tie as tie
 returns : tie.Need-returns
 returns c = (retiming-none _ (omega arith), omega arith)
 
-digits-of-requires : tie.Need-digits-of-requires
-digits-of-requires c κs = search tests
-
-add-result : tie.Need-add-result
-add-result c = search tests
-
 returns-2 : tie.Need-returns-2
 returns-2 c = (retiming-some _ _ (c .before .if1 .left) (c .digits-of .ensures .0), search tests)
 
 pub retiming-size-spec : {M : Type 1} → statement M
-retiming-size-spec = tie.close (tie.spec returns digits-of-requires add-result returns-2)
+retiming-size-spec = tie.close (tie.spec returns (λ c κs. search tests) (λ c. search tests) returns-2)

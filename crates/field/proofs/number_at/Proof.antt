@@ -18,18 +18,6 @@ loop-holds : tie.Need-loop-holds Inv-loop μ-loop
 unfolding numberAt
 loop-holds c = (search needs, let z : c .before .args .width - c .before .args .width ≡ 0 = omega arith in rw (z, numberAt))
 
-sub-left : tie.Need-sub-left Inv-loop μ-loop
-sub-left c = search needs
-
-add-byte-from : tie.Need-add-byte-from Inv-loop μ-loop
-add-byte-from c = search needs
-
-byte-from-requires : tie.Need-byte-from-requires Inv-loop μ-loop
-byte-from-requires c κs = search needs
-
-cast-byte : tie.Need-cast-byte Inv-loop μ-loop
-cast-byte c = search needs
-
 mul-value : tie.Need-mul-value Inv-loop μ-loop
 mul-value c =
     let b = c .before .before in
@@ -39,9 +27,6 @@ add-value : tie.Need-add-value Inv-loop μ-loop
 add-value c =
     let b = c .before .before in
     omega (arith, number-small (b .before .before .args .s .now) (λ i. b .before .shared-slice-known .given i .fits) (b .before .before .args .width - b .loop .left) 3 (b .before .before .args .at + b .loop .left) (omega arith))
-
-loop-less : tie.Need-loop-less Inv-loop μ-loop
-loop-less c = search needs
 
 loop-again : tie.Need-loop-again Inv-loop μ-loop
 loop-again c =
@@ -62,12 +47,12 @@ number-at-spec =
     Inv-loop
     μ-loop
     loop-holds
-    sub-left
-    add-byte-from
-    byte-from-requires
-    cast-byte
+    (λ c. search needs)
+    (λ c. search needs)
+    (λ c κs. search needs)
+    (λ c. search needs)
     mul-value
     add-value
-    loop-less
+    (λ c. search needs)
     loop-again
     returns)

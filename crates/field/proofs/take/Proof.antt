@@ -8,37 +8,13 @@ use borrow.Author.Needs.{needs}
 use Rattle.field.proofs.take.Statement.{statement}
 use Rattle.field.proofs.take.Tie as tie
 
-is-fine-requires : tie.Need-is-fine-requires
-is-fine-requires c κs = search needs
-
 returns : tie.Need-returns
 returns c = took-refused _ _ _ _ _ _ (sym (c .before .is-fine .ensures) ∙ not-true _ (c .if1 .taken))
-
-add-if2 : tie.Need-add-if2
-add-if2 c = search needs
-
-cast-t14 : tie.Need-cast-t14
-cast-t14 c = search needs
-
-stopped-requires : tie.Need-stopped-requires
-stopped-requires c κs = search needs
 
 returns-2 : tie.Need-returns-2
 returns-2 c =
     let e = c .before .before in
     took-short _ _ _ _ _ _ (sym (e .before .is-fine .ensures) ∙ not-false _ (e .if1 .left)) _ (omega (arith, c .before .if2 .taken)) (c .stopped .ensures)
-
-number-at-requires : tie.Need-number-at-requires
-number-at-requires c κs = search needs
-
-cast-wrong-at : tie.Need-cast-wrong-at
-cast-wrong-at c = search needs
-
-wrong-at-requires : tie.Need-wrong-at-requires
-wrong-at-requires c κs = search needs
-
-stopped-requires-2 : tie.Need-stopped-requires-2
-stopped-requires-2 c κs = search needs
 
 returns-3 : tie.Need-returns-3
 returns-3 c =
@@ -46,24 +22,12 @@ returns-3 c =
     let e = n .before .before in
     took-low _ _ _ _ _ _ (sym (e .before .is-fine .ensures) ∙ not-false _ (e .if1 .left)) (n .before .if2 .left) _ (n .number-at .ensures) _ _ (c .before .before .if3 .taken) (c .before .wrong-at .ensures) (c .stopped2 .ensures)
 
-cast-wrong-at-2 : tie.Need-cast-wrong-at-2
-cast-wrong-at-2 c = search needs
-
-wrong-at-requires-2 : tie.Need-wrong-at-requires-2
-wrong-at-requires-2 c κs = search needs
-
-stopped-requires-3 : tie.Need-stopped-requires-3
-stopped-requires-3 c κs = search needs
-
 returns-4 : tie.Need-returns-4
 returns-4 c =
     let l = c .before .before .before in
     let n = l .before in
     let e = n .before .before in
     took-high _ _ _ _ _ _ (sym (e .before .is-fine .ensures) ∙ not-false _ (e .if1 .left)) (n .before .if2 .left) _ (n .number-at .ensures) _ _ (l .if3 .left) (omega (arith, c .before .before .if4 .taken)) (c .before .wrong-at2 .ensures) (c .stopped3 .ensures)
-
-add-t12 : tie.Need-add-t12
-add-t12 c = search needs
 
 returns-5 : tie.Need-returns-5
 returns-5 c =
@@ -75,20 +39,20 @@ pub take-spec : {M : Type 1} → statement M
 take-spec =
     tie.close
     (tie.spec
-    is-fine-requires
+    (λ c κs. search needs)
     returns
-    add-if2
-    cast-t14
-    stopped-requires
+    (λ c. search needs)
+    (λ c. search needs)
+    (λ c κs. search needs)
     returns-2
-    number-at-requires
-    cast-wrong-at
-    wrong-at-requires
-    stopped-requires-2
+    (λ c κs. search needs)
+    (λ c. search needs)
+    (λ c κs. search needs)
+    (λ c κs. search needs)
     returns-3
-    cast-wrong-at-2
-    wrong-at-requires-2
-    stopped-requires-3
+    (λ c. search needs)
+    (λ c κs. search needs)
+    (λ c κs. search needs)
     returns-4
-    add-t12
+    (λ c. search needs)
     returns-5)

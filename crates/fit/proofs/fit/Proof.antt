@@ -13,18 +13,6 @@ use Rattle.fit.proofs.Plans.{fit-unread, fit-refused, fit-taken, fit-an
 use Rattle.fit.proofs.fit.Statement.{statement}
 use Rattle.fit.proofs.fit.Tie as tie
 
-read-requires : tie.Need-read-requires
-read-requires c κs = search needs
-
-is-fine-requires : tie.Need-is-fine-requires
-is-fine-requires c κs = search needs
-
-none-requires : tie.Need-none-requires
-none-requires c κs = search needs
-
-unfitted-requires : tie.Need-unfitted-requires
-unfitted-requires c κs = search needs
-
 returns : tie.Need-returns
 returns c =
     let r = c .before .before .before .before in
@@ -48,12 +36,6 @@ plan-tables-requires c κs =
           (c .before .before .before .before .times-of .ensures),
     )
 
-is-fine-requires-2 : tie.Need-is-fine-requires-2
-is-fine-requires-2 c κs = search needs
-
-unfitted-requires-2 : tie.Need-unfitted-requires-2
-unfitted-requires-2 c κs = search needs
-
 returns-2 : tie.Need-returns-2
 returns-2 c =
     let r = c .before .before .before .before .before .before .before .before .before .before .before .before .before in
@@ -75,9 +57,6 @@ write-fitted-requires c κs =
     (c .before .before .before .before .before .plan-tables .ensures _ (lent-form _ _ w (c .before .before .before .before .before .before .before .before .before .before .times-of .ensures)))
     (sym (c .before .before .before .is-fine2 .ensures) ∙ not-false _ (c .before .before .if2 .left))
 
-same-length : tie.Need-same-length
-same-length c = search needs
-
 returns-3 : tie.Need-returns-3
 unfolding fittedAnswer
 returns-3 c =
@@ -94,16 +73,16 @@ pub fit-spec : {M : Type 1} → statement M
 fit-spec =
     tie.close
     (tie.spec
-    read-requires
-    is-fine-requires
-    none-requires
-    unfitted-requires
+    (λ c κs. search needs)
+    (λ c κs. search needs)
+    (λ c κs. search needs)
+    (λ c κs. search needs)
     returns
     times-of-requires
     plan-tables-requires
-    is-fine-requires-2
-    unfitted-requires-2
+    (λ c κs. search needs)
+    (λ c κs. search needs)
     returns-2
     write-fitted-requires
-    same-length
+    (λ c. search needs)
     returns-3)

@@ -11,9 +11,6 @@ use Rattle.fit.specs.Tables.{described}
 use Rattle.fit.proofs.fit_starts.Statement.{statement}
 use Rattle.fit.proofs.fit_starts.Tie as tie
 
-times-of-requires : tie.Need-times-of-requires
-times-of-requires c κs = search needs
-
 limits-of-requires : tie.Need-limits-of-requires
 limits-of-requires c κs =
     let t = c .before .before .before .before in
@@ -41,4 +38,4 @@ returns c =
     c .fit-limits .ensures _ _ (described _ _ _ _ _ _ _ _ _ (sound-form f (t .before .pre .0)) (within-form f (t .before .pre .0) (t .before .pre .1)) (told-form f) (c .before .before .before .before .limits-of .ensures _ _ (lent .told) (lent .timed)))
 
 pub fit-starts-spec : {M : Type 1} → statement M
-fit-starts-spec = tie.close (tie.spec times-of-requires limits-of-requires fit-limits-requires returns)
+fit-starts-spec = tie.close (tie.spec (λ c κs. search needs) limits-of-requires fit-limits-requires returns)

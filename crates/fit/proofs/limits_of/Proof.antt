@@ -22,9 +22,6 @@ abbrev μ-loop : tie.MeasureT-loop
 loop-holds : tie.Need-loop-holds Inv-loop μ-loop
 loop-holds c = (search needs, search needs, search needs, λ g p told timed. limited-none g p _ _)
 
-element-copy-out-tail : tie.Need-element-copy-out-tail Inv-loop μ-loop
-element-copy-out-tail c = search needs
-
 -- an edge's nodes are places of the timetable
 tail-in : (c : tie.In-loop Inv-loop μ-loop) → getD (c .before .before .args .from .now) (c .before .loop .e) 0 < 64
 tail-in c =
@@ -39,17 +36,8 @@ head-in c =
 cast-tail : tie.Need-cast-tail Inv-loop μ-loop
 cast-tail c = omega (arith, tail-in (c .before))
 
-element-copy-out-head : tie.Need-element-copy-out-head Inv-loop μ-loop
-element-copy-out-head c = search needs
-
 cast-head : tie.Need-cast-head Inv-loop μ-loop
 cast-head c = omega (arith, head-in (c .before .before))
-
-element-copy-out-wide : tie.Need-element-copy-out-wide Inv-loop μ-loop
-element-copy-out-wide c = search needs
-
-wide-requires : tie.Need-wide-requires Inv-loop μ-loop
-wide-requires c κs = search needs
 
 mul-late : tie.Need-mul-late Inv-loop μ-loop
 mul-late c = omega (arith, tail-in (c .before .before .before .before))
@@ -75,24 +63,6 @@ late-requires c κs =
     let v = p .1 _ (p .0 .head-in (l .loop .e) (omega arith)) in
     (u .1, v .0, v .1)
 
-mul-gains : tie.Need-mul-gains Inv-loop μ-loop
-mul-gains c = search needs
-
-array-write-gains : tie.Need-array-write-gains Inv-loop μ-loop
-array-write-gains c = search needs
-
-mul-costs : tie.Need-mul-costs Inv-loop μ-loop
-mul-costs c = search needs
-
-array-write-costs : tie.Need-array-write-costs Inv-loop μ-loop
-array-write-costs c = search needs
-
-add-e : tie.Need-add-e Inv-loop μ-loop
-add-e c = search needs
-
-loop-less : tie.Need-loop-less Inv-loop μ-loop
-loop-less c = search needs
-
 loop-again : tie.Need-loop-again Inv-loop μ-loop
 loop-again c =
     let l = c .before .before .before .before .before .before .before .before .before .loop in
@@ -117,23 +87,23 @@ limits-of-spec =
     Inv-loop
     μ-loop
     loop-holds
-    element-copy-out-tail
+    (λ c. search needs)
     cast-tail
-    element-copy-out-head
+    (λ c. search needs)
     cast-head
-    element-copy-out-wide
-    wide-requires
+    (λ c. search needs)
+    (λ c κs. search needs)
     mul-late
     element-copy-out-late
     element-copy-out-late-2
     mul-late-2
     element-copy-out-late-3
     late-requires
-    mul-gains
-    array-write-gains
-    mul-costs
-    array-write-costs
-    add-e
-    loop-less
+    (λ c. search needs)
+    (λ c. search needs)
+    (λ c. search needs)
+    (λ c. search needs)
+    (λ c. search needs)
+    (λ c. search needs)
     loop-again
     returns)

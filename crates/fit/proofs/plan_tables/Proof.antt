@@ -16,20 +16,11 @@ use Rattle.fit.proofs.Plans.{plan-bare, plan-knot, plan-unfit, plan-fit
 use Rattle.fit.proofs.plan_tables.Statement.{statement}
 use Rattle.fit.proofs.plan_tables.Tie as tie
 
-none-requires : tie.Need-none-requires
-none-requires c κs = search needs
-
-unplanned-requires : tie.Need-unplanned-requires
-unplanned-requires c κs = search needs
-
 returns : tie.Need-returns
 returns c f lent = subst (Planned f) (sym (c .unplanned .ensures)) (plan-bare f (no-length f _ (lent .timed) (omega (arith, c .before .before .if1 .taken))) _ (c .before .none .ensures) _)
 
 knot-of-requires : tie.Need-knot-of-requires
 knot-of-requires c κs = let f = c .before .before .pre in lent-ends (f .0) _ _ _ _ _ (f .1)
-
-unplanned-requires-2 : tie.Need-unplanned-requires-2
-unplanned-requires-2 c κs = search needs
 
 returns-2 : tie.Need-returns-2
 returns-2 c f lent =
@@ -54,9 +45,6 @@ fit-limits-requires c κs =
         described _ _ _ _ _ _ _ _ _ (sound-form (f .0) (lent .good)) (within-form (f .0) (lent .good) some) (lent .told) (c .limits-of .ensures _ _ (lent .told) (lent .timed)),
       ),
     )
-
-unplanned-requires-3 : tie.Need-unplanned-requires-3
-unplanned-requires-3 c κs = search needs
 
 returns-3 : tie.Need-returns-3
 returns-3 c f lent =
@@ -83,15 +71,15 @@ pub plan-tables-spec : {M : Type 1} → statement M
 plan-tables-spec =
     tie.close
     (tie.spec
-    none-requires
-    unplanned-requires
+    (λ c κs. search needs)
+    (λ c κs. search needs)
     returns
     knot-of-requires
-    unplanned-requires-2
+    (λ c κs. search needs)
     returns-2
     limits-of-requires
     fit-limits-requires
-    unplanned-requires-3
+    (λ c κs. search needs)
     returns-3
     crowded-requires
     returns-4)

@@ -20,21 +20,6 @@ abbrev μ-loop : tie.MeasureT-loop
 loop-holds : tie.Need-loop-holds Inv-loop μ-loop
 loop-holds c = (search needs, top-none (c .args .values .now))
 
-cast-value : tie.Need-cast-value Inv-loop μ-loop
-cast-value c = search needs
-
-mul-value : tie.Need-mul-value Inv-loop μ-loop
-mul-value c = search needs
-
-element-copy-out-value : tie.Need-element-copy-out-value Inv-loop μ-loop
-element-copy-out-value c = search needs
-
-add-v : tie.Need-add-v Inv-loop μ-loop
-add-v c = search needs
-
-loop-less : tie.Need-loop-less Inv-loop μ-loop
-loop-less c = search needs
-
 loop-again : tie.Need-loop-again Inv-loop μ-loop
 loop-again c =
     let l = c .before .before .before in
@@ -53,10 +38,10 @@ top-of-spec =
     Inv-loop
     μ-loop
     loop-holds
-    cast-value
-    mul-value
-    element-copy-out-value
-    add-v
-    loop-less
+    (λ c. search needs)
+    (λ c. search needs)
+    (λ c. search needs)
+    (λ c. search needs)
+    (λ c. search needs)
     loop-again
     returns)

@@ -19,29 +19,8 @@ loop-holds : tie.Need-loop-holds Inv-loop μ-loop
 unfolding turnedOver
 loop-holds c = (search needs, fill-none _ _)
 
-cast-i : tie.Need-cast-i Inv-loop μ-loop
-cast-i c = search needs
-
-mul-retiming : tie.Need-mul-retiming Inv-loop μ-loop
-mul-retiming c = search needs
-
-element-copy-out-retiming : tie.Need-element-copy-out-retiming Inv-loop μ-loop
-element-copy-out-retiming c = search needs
-
 sub-retiming : tie.Need-sub-retiming Inv-loop μ-loop
 sub-retiming c = omega (arith, c .before .before .before .pre .1 (c .before .before .loop .v) (c .before .loop-test .taken))
-
-cast-retiming : tie.Need-cast-retiming Inv-loop μ-loop
-cast-retiming c = search needs
-
-array-write-retiming : tie.Need-array-write-retiming Inv-loop μ-loop
-array-write-retiming c = search needs
-
-add-v : tie.Need-add-v Inv-loop μ-loop
-add-v c = search needs
-
-loop-less : tie.Need-loop-less Inv-loop μ-loop
-loop-less c = search needs
 
 loop-again : tie.Need-loop-again Inv-loop μ-loop
 unfolding turnedOver
@@ -61,13 +40,13 @@ turned-spec =
     Inv-loop
     μ-loop
     loop-holds
-    cast-i
-    mul-retiming
-    element-copy-out-retiming
+    (λ c. search needs)
+    (λ c. search needs)
+    (λ c. search needs)
     sub-retiming
-    cast-retiming
-    array-write-retiming
-    add-v
-    loop-less
+    (λ c. search needs)
+    (λ c. search needs)
+    (λ c. search needs)
+    (λ c. search needs)
     loop-again
     returns)

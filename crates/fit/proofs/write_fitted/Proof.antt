@@ -10,9 +10,6 @@ write-taken-requires : tie.Need-write-taken-requires
 unfolding withRetiming
 write-taken-requires c κs = c .before .before .before .pre
 
-same-length : tie.Need-same-length
-same-length c = search needs
-
 returns : tie.Need-returns
 unfolding fittedAnswer withRetiming
 returns c =
@@ -20,4 +17,4 @@ returns c =
     (rw (w .0), w .1)
 
 pub write-fitted-spec : {M : Type 1} → statement M
-write-fitted-spec = tie.close (tie.spec write-taken-requires same-length returns)
+write-fitted-spec = tie.close (tie.spec write-taken-requires (λ c. search needs) returns)

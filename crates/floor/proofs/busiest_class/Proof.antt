@@ -21,26 +21,8 @@ abbrev μ-loop : tie.MeasureT-loop
 loop-holds : tie.Need-loop-holds Inv-loop μ-loop
 loop-holds c = (search needs, λ g p timed. busy-none g, omega arith)
 
-cast-class : tie.Need-cast-class Inv-loop μ-loop
-cast-class c = search needs
-
-mul-class : tie.Need-mul-class Inv-loop μ-loop
-mul-class c = search needs
-
-element-copy-out-class : tie.Need-element-copy-out-class Inv-loop μ-loop
-element-copy-out-class c = search needs
-
-nodes-on-requires : tie.Need-nodes-on-requires Inv-loop μ-loop
-nodes-on-requires c κs = search needs
-
 units-part-requires : tie.Need-units-part-requires Inv-loop μ-loop
 units-part-requires c κs = (c .before .before .before .before .before .before .pre .class (c .before .before .before .before .before .loop .c) (c .before .before .before .before .loop-test .taken), c .nodes-on .ensures .1)
-
-add-c : tie.Need-add-c Inv-loop μ-loop
-add-c c = search needs
-
-loop-less : tie.Need-loop-less Inv-loop μ-loop
-loop-less c = search needs
 
 loop-again : tie.Need-loop-again Inv-loop μ-loop
 loop-again c =
@@ -72,12 +54,12 @@ busiest-class-spec =
     Inv-loop
     μ-loop
     loop-holds
-    cast-class
-    mul-class
-    element-copy-out-class
-    nodes-on-requires
+    (λ c. search needs)
+    (λ c. search needs)
+    (λ c. search needs)
+    (λ c κs. search needs)
     units-part-requires
-    add-c
-    loop-less
+    (λ c. search needs)
+    (λ c. search needs)
     loop-again
     returns)

@@ -7,12 +7,6 @@ use borrow.Author.Needs.{needs}
 use Rattle.floor.proofs.busy_steps.Statement.{statement}
 use Rattle.floor.proofs.busy_steps.Tie as tie
 
-wide-requires : tie.Need-wide-requires
-wide-requires c κs = search needs
-
-wide-requires-2 : tie.Need-wide-requires-2
-wide-requires-2 c κs = search needs
-
 mul-result : tie.Need-mul-result
 mul-result c = omega (arith, product (c .before .wide .result) (c .wide2 .result) 64 8 (omega (arith, c .before .wide .ensures .0)) (omega (arith, c .wide2 .ensures .0)))
 
@@ -21,12 +15,9 @@ returns c =
     let p = product (c .before .wide .result) (c .wide2 .result) 64 8 (omega (arith, c .before .wide .ensures .0)) (omega (arith, c .wide2 .ensures .0)) in
     (rw (c .before .wide .ensures .0, c .wide2 .ensures .0, hold-plain (c .before .before .before .before .args .class) (omega (arith, c .before .before .if1 .taken))), omega arith)
 
-wide-requires-3 : tie.Need-wide-requires-3
-wide-requires-3 c κs = search needs
-
 returns-2 : tie.Need-returns-2
 returns-2 c = (rw (c .wide3 .ensures .0, hold-piped (c .before .before .before .args .class) (c .before .if1 .left), mul-one), omega (arith, c .wide3 .ensures .0))
 
 pub busy-steps-spec : {M : Type 1} → statement M
 busy-steps-spec =
-    tie.close (tie.spec wide-requires wide-requires-2 mul-result returns wide-requires-3 returns-2)
+    tie.close (tie.spec (λ c κs. search needs) (λ c κs. search needs) mul-result returns (λ c κs. search needs) returns-2)

@@ -15,32 +15,11 @@ Inv-loop edges from latency costs₀ e₀ costs e = (e ≤ edges) × (length cos
 abbrev μ-loop : tie.MeasureT-loop
 μ-loop edges from latency costs₀ e₀ costs e = edges - e
 
-loop-holds : tie.Need-loop-holds Inv-loop μ-loop
-loop-holds c = search needs
-
-element-copy-out-tail : tie.Need-element-copy-out-tail Inv-loop μ-loop
-element-copy-out-tail c = search needs
-
 cast-tail : tie.Need-cast-tail Inv-loop μ-loop
 cast-tail c = omega (arith, c .before .before .before .pre .1 (c .before .before .loop .e) (omega arith))
 
 element-copy-out-wide : tie.Need-element-copy-out-wide Inv-loop μ-loop
 element-copy-out-wide c = omega (arith, c .before .before .before .pre .1 (c .before .before .loop .e) (omega arith))
-
-wide-requires : tie.Need-wide-requires Inv-loop μ-loop
-wide-requires c κs = search needs
-
-mul-costs : tie.Need-mul-costs Inv-loop μ-loop
-mul-costs c = search needs
-
-array-write-costs : tie.Need-array-write-costs Inv-loop μ-loop
-array-write-costs c = search needs
-
-add-e : tie.Need-add-e Inv-loop μ-loop
-add-e c = search needs
-
-loop-less : tie.Need-loop-less Inv-loop μ-loop
-loop-less c = search needs
 
 loop-again : tie.Need-loop-again Inv-loop μ-loop
 loop-again c =
@@ -57,14 +36,14 @@ costs-of-spec =
     (tie.spec
     Inv-loop
     μ-loop
-    loop-holds
-    element-copy-out-tail
+    (λ c. search needs)
+    (λ c. search needs)
     cast-tail
     element-copy-out-wide
-    wide-requires
-    mul-costs
-    array-write-costs
-    add-e
-    loop-less
+    (λ c κs. search needs)
+    (λ c. search needs)
+    (λ c. search needs)
+    (λ c. search needs)
+    (λ c. search needs)
     loop-again
     returns)

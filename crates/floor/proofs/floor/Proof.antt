@@ -10,15 +10,6 @@ use borrow.Author.Needs.{needs}
 use Rattle.floor.proofs.floor.Statement.{statement}
 use Rattle.floor.proofs.floor.Tie as tie
 
-read-requires : tie.Need-read-requires
-read-requires c κs = search needs
-
-is-fine-requires : tie.Need-is-fine-requires
-is-fine-requires c κs = search needs
-
-alone-requires : tie.Need-alone-requires
-alone-requires c κs = search needs
-
 returns : tie.Need-returns
 returns c =
     let r = c .before .before .before in
@@ -45,9 +36,9 @@ pub floor-spec : {M : Type 1} → statement M
 floor-spec =
     tie.close
     (tie.spec
-    read-requires
-    is-fine-requires
-    alone-requires
+    (λ c κs. search needs)
+    (λ c κs. search needs)
+    (λ c κs. search needs)
     returns
     times-of-requires
     floor-tables-requires

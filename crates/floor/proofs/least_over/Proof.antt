@@ -25,25 +25,10 @@ abbrev μ-loop : tie.MeasureT-loop
 loop-holds : tie.Need-loop-holds Inv-loop μ-loop
 loop-holds c = (search needs, omega arith, omega arith, λ g paced q. (enough-512 g (paced .sound) (unknotted-free g (paced .free)), λ l one z. short-less g (paced .sound) l _ z q))
 
-add-loop : tie.Need-add-loop Inv-loop μ-loop
-add-loop c = search needs
-
-add-middle : tie.Need-add-middle Inv-loop μ-loop
-add-middle c = search needs
-
-is-enough-requires : tie.Need-is-enough-requires Inv-loop μ-loop
-is-enough-requires c κs = search needs
-
-loop-less : tie.Need-loop-less Inv-loop μ-loop
-loop-less c = search needs
-
 loop-again : tie.Need-loop-again Inv-loop μ-loop
 loop-again c =
     let i = c .before .before .before .loop .inv in
     (omega arith, omega arith, omega arith, λ g paced q. (sym (c .before .is-enough .ensures g (paced .told) (paced .costed)) ∙ c .if1 .taken, i .3 g paced q .1))
-
-loop-less-2 : tie.Need-loop-less-2 Inv-loop μ-loop
-loop-less-2 c = search needs
 
 loop-again-2 : tie.Need-loop-again-2 Inv-loop μ-loop
 loop-again-2 c =
@@ -71,11 +56,11 @@ least-over-spec =
     Inv-loop
     μ-loop
     loop-holds
-    add-loop
-    add-middle
-    is-enough-requires
-    loop-less
+    (λ c. search needs)
+    (λ c. search needs)
+    (λ c κs. search needs)
+    (λ c. search needs)
     loop-again
-    loop-less-2
+    (λ c. search needs)
     loop-again-2
     returns)

@@ -10,15 +10,6 @@ use Rattle.judge.proofs.Laws.{record-refused, record-judged}
 use Rattle.judge.proofs.judge.Statement.{statement}
 use Rattle.judge.proofs.judge.Tie as tie
 
-read-requires : tie.Need-read-requires
-read-requires c κs = search needs
-
-is-fine-requires : tie.Need-is-fine-requires
-is-fine-requires c κs = search needs
-
-alone-requires : tie.Need-alone-requires
-alone-requires c κs = search needs
-
 returns : tie.Need-returns
 returns c =
     let r = c .before .before .before in
@@ -45,4 +36,4 @@ returns-2 c =
     record-judged _ _ (r .read .ensures) _ fine (c .judge-tables .ensures _ (lent-form _ _ w (c .before .before .before .before .before .times-of .ensures)))
 
 pub judge-spec : {M : Type 1} → statement M
-judge-spec = tie.close (tie.spec read-requires is-fine-requires alone-requires returns times-of-requires judge-tables-requires returns-2)
+judge-spec = tie.close (tie.spec (λ c κs. search needs) (λ c κs. search needs) (λ c κs. search needs) returns times-of-requires judge-tables-requires returns-2)

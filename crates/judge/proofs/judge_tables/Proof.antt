@@ -10,9 +10,6 @@ use Rattle.judge.proofs.Laws.{edge-refused, edges-kept, judged-bare, ju
 use Rattle.judge.proofs.judge_tables.Statement.{statement}
 use Rattle.judge.proofs.judge_tables.Tie as tie
 
-alone-requires : tie.Need-alone-requires
-alone-requires c κs = search needs
-
 returns : tie.Need-returns
 returns c = λ f lent. judged-bare f _ (no-length f _ (lent .timed) (c .before .if1 .taken)) (c .alone .ensures .0) (c .alone .ensures .1)
 
@@ -25,12 +22,6 @@ returns-2 c = λ f lent. judged-knot f (some-length f _ (lent .timed) (c .before
 broken-edge-requires : tie.Need-broken-edge-requires
 broken-edge-requires c κs = let f = c .before .before .before .before .before .pre in (lent-ends (f .0) _ _ _ _ _ (f .1), (loopOf (f .0), (pairOf (f .0), f .1 .told, f .1 .timed)))
 
-cast-t12 : tie.Need-cast-t12
-cast-t12 c = search needs
-
-alone-requires-2 : tie.Need-alone-requires-2
-alone-requires-2 c κs = search needs
-
 returns-3 : tie.Need-returns-3
 returns-3 c = λ f lent.
     judged-rules f _ (some-length f _ (lent .timed) (c .before .before .before .before .before .before .if1 .left)) _ (c .before .before .before .before .before .knot-of .ensures _ (lent .told)) (omega (arith, c .before .before .before .if2 .left)) _
@@ -41,9 +32,6 @@ crowded-requires c κs =
     let f = c .before .before .before .before .before .before .before .pre in
     let some = some-length (f .0) _ (f .1 .timed) (c .before .before .before .before .before .if1 .left) in
     (lent-sound (f .0) _ _ _ _ _ (f .1), (loopOf (f .0), (pairOf (f .0), f .1 .timed, seated-form (f .0) (f .1 .good) some)))
-
-alone-requires-3 : tie.Need-alone-requires-3
-alone-requires-3 c κs = search needs
 
 returns-4 : tie.Need-returns-4
 returns-4 c = λ f lent.
@@ -56,14 +44,14 @@ pub judge-tables-spec : {M : Type 1} → statement M
 judge-tables-spec =
     tie.close
     (tie.spec
-    alone-requires
+    (λ c κs. search needs)
     returns
     knot-of-requires
     returns-2
     broken-edge-requires
-    cast-t12
-    alone-requires-2
+    (λ c. search needs)
+    (λ c κs. search needs)
     returns-3
     crowded-requires
-    alone-requires-3
+    (λ c κs. search needs)
     returns-4)

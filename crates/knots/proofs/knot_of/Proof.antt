@@ -4,11 +4,8 @@ use borrow.Author.Needs.{needs}
 use Rattle.knots.proofs.knot_of.Statement.{statement}
 use Rattle.knots.proofs.knot_of.Tie as tie
 
-ranked-requires : tie.Need-ranked-requires
-ranked-requires c κs = search needs
-
 returns : tie.Need-returns
 returns c g told = c .before .ranked .ensures g told .found
 
 pub knot-of-spec : {M : Type 1} → statement M
-knot-of-spec = tie.close (tie.spec ranked-requires returns)
+knot-of-spec = tie.close (tie.spec (λ c κs. search needs) returns)

@@ -5,9 +5,6 @@ use Rattle.knots.proofs.Laws.{ends-joined, ranks-found}
 use Rattle.knots.proofs.ranked.Statement.{statement}
 use Rattle.knots.proofs.ranked.Tie as tie
 
-gains-of-requires : tie.Need-gains-of-requires
-gains-of-requires c κs = search needs
-
 solve-requires : tie.Need-solve-requires
 solve-requires c κs =
     let begun = c .before .before .before in
@@ -22,4 +19,4 @@ returns c g told =
     ranks-found _ _ (a .from .now) (a .to .now) (a .delays .now) (gained .before .pre) _ (gained .gains-of .ensures) g told _ (c .before .before .solve .ensures)
 
 pub ranked-spec : {M : Type 1} → statement M
-ranked-spec = tie.close (tie.spec gains-of-requires solve-requires returns)
+ranked-spec = tie.close (tie.spec (λ c κs. search needs) solve-requires returns)

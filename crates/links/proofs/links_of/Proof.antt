@@ -15,22 +15,10 @@ Inv-loop keys edges first₀ next₀ e₀ first next e = (e ≤ edges) × Linked
 abbrev μ-loop : tie.MeasureT-loop
 μ-loop keys edges first₀ next₀ e₀ first next e = e
 
-first-blank-requires : tie.Need-first-blank-requires Inv-loop μ-loop
-first-blank-requires c κs = search needs
-
-next-blank-requires : tie.Need-next-blank-requires Inv-loop μ-loop
-next-blank-requires c κs = search needs
-
 loop-holds : tie.Need-loop-holds Inv-loop μ-loop
 loop-holds c =
     let f = c .before .first-blank .ensures in
     (omega arith, linked-none _ _ _ _ (f .0) (c .next-blank .ensures .0) (f .1) (c .next-blank .ensures .1))
-
-sub-e : tie.Need-sub-e Inv-loop μ-loop
-sub-e c = search needs
-
-element-copy-out-key : tie.Need-element-copy-out-key Inv-loop μ-loop
-element-copy-out-key c = search needs
 
 key-in : (c : tie.After-key Inv-loop μ-loop) → getD (c .before .before .before .before .before .args .keys .now) (c .before .before .loop .e - 1) 0 < 64
 key-in c = c .before .before .before .before .before .pre .1 (c .before .before .loop .e - 1) (omega arith)
@@ -50,17 +38,11 @@ mul-next-2 c = omega (arith, key-in c)
 array-write-next : tie.Need-array-write-next Inv-loop μ-loop
 array-write-next c = omega (arith, key-in c)
 
-cast-first : tie.Need-cast-first Inv-loop μ-loop
-cast-first c = search needs
-
 mul-first : tie.Need-mul-first Inv-loop μ-loop
 mul-first c = omega (arith, key-in c)
 
 array-write-first : tie.Need-array-write-first Inv-loop μ-loop
 array-write-first c = key-in c
-
-loop-less : tie.Need-loop-less Inv-loop μ-loop
-loop-less c = search needs
 
 loop-again : tie.Need-loop-again Inv-loop μ-loop
 loop-again c =
@@ -81,4 +63,4 @@ returns c =
     (subst (λ x. LinkedFrom (λ d. getD (a .keys .now) d 0) (a .edges) x (l .first) (l .next)) end (l .inv .1))
 
 pub links-of-spec : {M : Type 1} → statement M
-links-of-spec = tie.close (tie.spec Inv-loop μ-loop first-blank-requires next-blank-requires loop-holds sub-e element-copy-out-key cast-key mul-next array-read-next mul-next-2 array-write-next cast-first mul-first array-write-first loop-less loop-again returns)
+links-of-spec = tie.close (tie.spec Inv-loop μ-loop (λ c κs. search needs) (λ c κs. search needs) loop-holds (λ c. search needs) (λ c. search needs) cast-key mul-next array-read-next mul-next-2 array-write-next (λ c. search needs) mul-first array-write-first (λ c. search needs) loop-again returns)

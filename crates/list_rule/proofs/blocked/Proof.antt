@@ -7,9 +7,6 @@ use Rattle.list_rule.proofs.Laws.{tests}
 use Rattle.list_rule.proofs.blocked.Statement.{statement}
 use Rattle.list_rule.proofs.blocked.Tie as tie
 
-add-if1 : tie.Need-add-if1
-add-if1 c = search needs
-
 returns : tie.Need-returns
 unfolding blocksAt pick
 returns c = search tests
@@ -17,9 +14,6 @@ returns c = search tests
 returns-2 : tie.Need-returns-2
 unfolding blocksAt pick
 returns-2 c = search tests
-
-add-if3 : tie.Need-add-if3
-add-if3 c = search needs
 
 returns-3 : tie.Need-returns-3
 unfolding blocksAt pick
@@ -30,4 +24,4 @@ unfolding blocksAt pick
 returns-4 c = search tests
 
 pub blocked-spec : {M : Type 1} → statement M
-blocked-spec = tie.close (tie.spec add-if1 returns returns-2 add-if3 returns-3 returns-4)
+blocked-spec = tie.close (tie.spec (λ c. search needs) returns returns-2 (λ c. search needs) returns-3 returns-4)

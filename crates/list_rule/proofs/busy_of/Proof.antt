@@ -15,23 +15,11 @@ Inv-loop form busy₀ v₀ v-end busy v = (v ≤ form .nodes) × Used form (star
 abbrev μ-loop : tie.MeasureT-loop
 μ-loop form busy₀ v₀ v-end busy v = form .nodes - v
 
-idle-requires : tie.Need-idle-requires Inv-loop μ-loop
-idle-requires c κs = search needs
-
 loop-holds : tie.Need-loop-holds Inv-loop μ-loop
 loop-holds c = (search needs, used-none _ _ _ (c .idle .ensures .0) (c .idle .ensures .1))
 
 board : (c : tie.In-loop Inv-loop μ-loop) → Board (c .before .before .before .args .t1) (c .before .loop .v)
 board c = board-of _ (c .before .before .before .pre .0) _ (c .loop-test .taken)
-
-cast-i : tie.Need-cast-i Inv-loop μ-loop
-cast-i c = search needs
-
-mul-number : tie.Need-mul-number Inv-loop μ-loop
-mul-number c = search needs
-
-element-copy-out-number : tie.Need-element-copy-out-number Inv-loop μ-loop
-element-copy-out-number c = search needs
 
 cast-class : tie.Need-cast-class Inv-loop μ-loop
 cast-class c = omega (arith, board c .class-in)
@@ -42,15 +30,6 @@ mul-class c = omega (arith, board c .class-in)
 element-copy-out-class : tie.Need-element-copy-out-class Inv-loop μ-loop
 element-copy-out-class c = board c .class-in
 
-mul-raise : tie.Need-mul-raise Inv-loop μ-loop
-mul-raise c = search needs
-
-element-copy-out-raise : tie.Need-element-copy-out-raise Inv-loop μ-loop
-element-copy-out-raise c = search needs
-
-hold-of-requires : tie.Need-hold-of-requires Inv-loop μ-loop
-hold-of-requires c κs = search needs
-
 raise-requires : tie.Need-raise-requires Inv-loop μ-loop
 raise-requires c κs =
     let l = c .before .before .before .before in
@@ -59,12 +38,6 @@ raise-requires c κs =
       (l .loop .inv .1 .size, k .class-in, omega (arith, c .hold-of .ensures, w .1 .at (l .loop .v) (omega arith))),
       λ q h. used-fits _ _ _ _ (omega (arith, w .0 .nodes)) (l .loop .inv .1) _ q (k .class-in) h,
     )
-
-add-v : tie.Need-add-v Inv-loop μ-loop
-add-v c = search needs
-
-loop-less : tie.Need-loop-less Inv-loop μ-loop
-loop-less c = search needs
 
 loop-again : tie.Need-loop-again Inv-loop μ-loop
 loop-again c =
@@ -80,19 +53,19 @@ busy-of-spec =
     (tie.spec
     Inv-loop
     μ-loop
-    idle-requires
+    (λ c κs. search needs)
     loop-holds
-    cast-i
-    mul-number
-    element-copy-out-number
+    (λ c. search needs)
+    (λ c. search needs)
+    (λ c. search needs)
     cast-class
     mul-class
     element-copy-out-class
-    mul-raise
-    element-copy-out-raise
-    hold-of-requires
+    (λ c. search needs)
+    (λ c. search needs)
+    (λ c κs. search needs)
     raise-requires
-    add-v
-    loop-less
+    (λ c. search needs)
+    (λ c. search needs)
     loop-again
     returns)

@@ -41,20 +41,8 @@ ordered c =
     let o = c .before .before .before in
     ordered-of _ (o .before .args .weight) _ (o .before .pre .0 .0) (o .before .pre .1) (o .order-of .ensures .0) (o .order-of .ensures .1)
 
-order-of-requires : tie.Need-order-of-requires Inv-loop μ-loop Inv-nodes μ-nodes Inv-steps μ-steps
-order-of-requires c κs = search needs
-
-busy-of-requires : tie.Need-busy-of-requires Inv-loop μ-loop Inv-nodes μ-nodes Inv-steps μ-steps
-busy-of-requires c κs = search needs
-
-times-of-requires : tie.Need-times-of-requires Inv-loop μ-loop Inv-nodes μ-nodes Inv-steps μ-steps
-times-of-requires c κs = search needs
-
 steps-holds : tie.Need-steps-holds Inv-loop μ-loop Inv-nodes μ-nodes Inv-steps μ-steps
 steps-holds c = (omega arith, omega arith, filling-none _ _ (search tests) (c .before .busy-of .ensures))
-
-unplaced-requires : tie.Need-unplaced-requires Inv-loop μ-loop Inv-nodes μ-nodes Inv-steps μ-steps
-unplaced-requires c κs = search needs
 
 waiting-requires : tie.Need-waiting-requires Inv-loop μ-loop Inv-nodes μ-nodes Inv-steps μ-steps
 waiting-requires c κs = edges-in _ (c .before .before .before .before .before .before .before .before .before .before .before .before .before .before .before .pre .0 .0)
@@ -84,12 +72,6 @@ node-place c = omega (arith, node-in c, well c .nodes .1)
 board : (c : tie.In-nodes Inv-loop μ-loop Inv-nodes μ-nodes Inv-steps μ-steps) → Board (begun c .before .before .before .before .args .t1) (getD (begun c .before .before .before .order-of .result) (c .before .nodes .i) 0)
 board c = board-of _ (well c) _ (node-in c)
 
-cast-v : tie.Need-cast-v Inv-loop μ-loop Inv-nodes μ-nodes Inv-steps μ-steps
-cast-v c = search needs
-
-array-read-v : tie.Need-array-read-v Inv-loop μ-loop Inv-nodes μ-nodes Inv-steps μ-steps
-array-read-v c = search needs
-
 cast-v-2 : tie.Need-cast-v-2 Inv-loop μ-loop Inv-nodes μ-nodes Inv-steps μ-steps
 cast-v-2 c = omega (arith, node-place c)
 
@@ -105,12 +87,6 @@ mul-if3 c = omega (arith, node-place (c .before))
 
 array-read-if3 : tie.Need-array-read-if3 Inv-loop μ-loop Inv-nodes μ-nodes Inv-steps μ-steps
 array-read-if3 c = omega (arith, node-place (c .before))
-
-add-i : tie.Need-add-i Inv-loop μ-loop Inv-nodes μ-nodes Inv-steps μ-steps
-add-i c = search needs
-
-nodes-less : tie.Need-nodes-less Inv-loop μ-loop Inv-nodes μ-nodes Inv-steps μ-steps
-nodes-less c = search needs
 
 nodes-again : tie.Need-nodes-again Inv-loop μ-loop Inv-nodes μ-nodes Inv-steps μ-steps
 nodes-again c =
@@ -140,18 +116,12 @@ element-copy-out-class :
     tie.Need-element-copy-out-class Inv-loop μ-loop Inv-nodes μ-nodes Inv-steps μ-steps
 element-copy-out-class c = omega (arith, board (c .before .before) .class-in)
 
-hold-of-requires : tie.Need-hold-of-requires Inv-loop μ-loop Inv-nodes μ-nodes Inv-steps μ-steps
-hold-of-requires c κs = search needs
-
 add-q-end : tie.Need-add-q-end Inv-loop μ-loop Inv-nodes μ-nodes Inv-steps μ-steps
 add-q-end c = omega (arith, board (c .before .before .before .before) .hold-in, c .hold-of .ensures, c .before .before .before .before .before .before .before .before .before .before .before .before .before .before .before .before .steps-test .taken)
 
 loop-holds : tie.Need-loop-holds Inv-loop μ-loop Inv-nodes μ-nodes Inv-steps μ-steps
 loop-holds c =
     (refl, omega arith, omega (arith, board (c .before .before .before .before) .hold-in, c .hold-of .ensures, c .before .before .before .before .before .before .before .before .before .before .before .before .before .before .before .before .steps-test .taken), searching-none _ _ _ _ _ (c .hold-of .ensures))
-
-spot-requires : tie.Need-spot-requires Inv-loop μ-loop Inv-nodes μ-nodes Inv-steps μ-steps
-spot-requires c κs = search needs
 
 array-read-if4 : tie.Need-array-read-if4 Inv-loop μ-loop Inv-nodes μ-nodes Inv-steps μ-steps
 array-read-if4 c = omega (arith, c .spot .ensures .0, board (c .before .before .before .before .before .before .before) .class-in, c .before .loop-test .taken, c .before .before .loop .inv .2)
@@ -160,9 +130,6 @@ add-i-2 : tie.Need-add-i-2 Inv-loop μ-loop Inv-nodes μ-nodes Inv-steps μ-step
 add-i-2 c =
     let n = c .before .before .before .before .before .before .before .before .before in
     omega (arith, c .before .before .before .before .loop .inv .0, n .nodes-test .taken, well n .nodes .1)
-
-nodes-less-2 : tie.Need-nodes-less-2 Inv-loop μ-loop Inv-nodes μ-nodes Inv-steps μ-steps
-nodes-less-2 c = search needs
 
 nodes-again-2 : tie.Need-nodes-again-2 Inv-loop μ-loop Inv-nodes μ-nodes Inv-steps μ-steps
 nodes-again-2 c =
@@ -174,9 +141,6 @@ nodes-again-2 c =
 
 add-q : tie.Need-add-q Inv-loop μ-loop Inv-nodes μ-nodes Inv-steps μ-steps
 add-q c = omega (arith, c .before .before .before .loop-test .taken, c .before .before .before .before .loop .inv .2)
-
-loop-less : tie.Need-loop-less Inv-loop μ-loop Inv-nodes μ-nodes Inv-steps μ-steps
-loop-less c = search needs
 
 loop-again : tie.Need-loop-again Inv-loop μ-loop Inv-nodes μ-nodes Inv-steps μ-steps
 loop-again c =
@@ -209,9 +173,6 @@ add-i-3 c =
     let n = c .before .before .before .before .before .before .before .before in
     omega (arith, c .before .before .before .loop .inv .0, n .nodes-test .taken, well n .nodes .1)
 
-nodes-less-3 : tie.Need-nodes-less-3 Inv-loop μ-loop Inv-nodes μ-nodes Inv-steps μ-steps
-nodes-less-3 c = search needs
-
 nodes-again-3 : tie.Need-nodes-again-3 Inv-loop μ-loop Inv-nodes μ-nodes Inv-steps μ-steps
 nodes-again-3 c =
     let l = c .before .before .before in
@@ -219,12 +180,6 @@ nodes-again-3 c =
     let t = n .before .nodes .inv .1 in
     let found = searching-end _ _ _ _ _ _ (c .before .before .loop-test .left) (l .loop .inv .3) in
     rw (l .loop .inv .0) (omega (arith, n .nodes-test .taken), trying-put _ _ _ _ _ _ _ t (sorted n) (well n) (n .nodes-test .taken) _ (begun n .times-of .ensures) _ (n .before .before .waiting .ensures) _ _ (c .before .before .before .before .hold-of .ensures) (c .before .before .before .before .before .before .before .if2 .left) (eqb-true _ _ (not-false _ (c .before .before .before .before .before .before .if3 .left))) found (c .raise .ensures))
-
-add-p : tie.Need-add-p Inv-loop μ-loop Inv-nodes μ-nodes Inv-steps μ-steps
-add-p c = search needs
-
-steps-less : tie.Need-steps-less Inv-loop μ-loop Inv-nodes μ-nodes Inv-steps μ-steps
-steps-less c = search needs
 
 steps-again : tie.Need-steps-again Inv-loop μ-loop Inv-nodes μ-nodes Inv-steps μ-steps
 steps-again c = (omega arith, omega arith, trying-end _ _ _ _ _ _ _ (c .before .nodes .inv .1) (c .nodes-test .left) (c .before .nodes .inv .0))
@@ -245,47 +200,47 @@ list-rule-spec =
     μ-nodes
     Inv-steps
     μ-steps
-    order-of-requires
-    busy-of-requires
-    times-of-requires
+    (λ c κs. search needs)
+    (λ c κs. search needs)
+    (λ c κs. search needs)
     steps-holds
-    unplaced-requires
+    (λ c κs. search needs)
     waiting-requires
     nodes-holds
-    cast-v
-    array-read-v
+    (λ c. search needs)
+    (λ c. search needs)
     cast-v-2
     mul-if2
     element-copy-out-if2
     mul-if3
     array-read-if3
-    add-i
-    nodes-less
+    (λ c. search needs)
+    (λ c. search needs)
     nodes-again
     mul-number
     element-copy-out-number
     cast-class
     mul-class
     element-copy-out-class
-    hold-of-requires
+    (λ c κs. search needs)
     add-q-end
     loop-holds
-    spot-requires
+    (λ c κs. search needs)
     array-read-if4
     add-i-2
-    nodes-less-2
+    (λ c. search needs)
     nodes-again-2
     add-q
-    loop-less
+    (λ c. search needs)
     loop-again
     mul-start
     array-set-from-start
     raise-requires
     add-i-3
-    nodes-less-3
+    (λ c. search needs)
     nodes-again-3
-    add-p
-    steps-less
+    (λ c. search needs)
+    (λ c. search needs)
     steps-again
     returns
     returns-2)

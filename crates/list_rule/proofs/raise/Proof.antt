@@ -18,31 +18,13 @@ abbrev μ-loop : tie.MeasureT-loop
 returns : tie.Need-returns Inv-loop μ-loop
 returns c = raised-not-placed _ _ _ _ (c .before .pre .0 .0) (c .if1 .taken)
 
-add-q-end : tie.Need-add-q-end Inv-loop μ-loop
-add-q-end c = search needs
-
 loop-holds : tie.Need-loop-holds Inv-loop μ-loop
 loop-holds c = (search needs, search needs, raised-none _ _ _ (c .before .pre .0 .0))
-
-spot-requires : tie.Need-spot-requires Inv-loop μ-loop
-spot-requires c κs = search needs
-
-element-copy-out-busy : tie.Need-element-copy-out-busy Inv-loop μ-loop
-element-copy-out-busy c = search needs
 
 add-busy : tie.Need-add-busy Inv-loop μ-loop
 add-busy c =
     let l = c .before .before .before in
     rw (c .before .spot .ensures .0) (omega (arith, raised-here _ _ _ _ _ (l .loop .inv .2) (l .before .before .pre .0 .1) (omega arith) (l .loop .inv .0) (omega arith), l .before .before .pre .1 (l .loop .q) (omega arith)))
-
-element-write-busy : tie.Need-element-write-busy Inv-loop μ-loop
-element-write-busy c = search needs
-
-add-q : tie.Need-add-q Inv-loop μ-loop
-add-q c = search needs
-
-loop-less : tie.Need-loop-less Inv-loop μ-loop
-loop-less c = search needs
 
 loop-again : tie.Need-loop-again Inv-loop μ-loop
 loop-again c =
@@ -62,13 +44,13 @@ raise-spec =
     Inv-loop
     μ-loop
     returns
-    add-q-end
+    (λ c. search needs)
     loop-holds
-    spot-requires
-    element-copy-out-busy
+    (λ c κs. search needs)
+    (λ c. search needs)
     add-busy
-    element-write-busy
-    add-q
-    loop-less
+    (λ c. search needs)
+    (λ c. search needs)
+    (λ c. search needs)
     loop-again
     returns-2)

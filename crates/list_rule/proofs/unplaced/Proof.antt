@@ -30,24 +30,6 @@ loop-holds : tie.Need-loop-holds Inv-loop μ-loop
 unfolding count span
 loop-holds c = (search needs, search needs, refl)
 
-cast-if1 : tie.Need-cast-if1 Inv-loop μ-loop
-cast-if1 c = search needs
-
-mul-if1 : tie.Need-mul-if1 Inv-loop μ-loop
-mul-if1 c = search needs
-
-element-copy-out-if1 : tie.Need-element-copy-out-if1 Inv-loop μ-loop
-element-copy-out-if1 c = search needs
-
-add-left : tie.Need-add-left Inv-loop μ-loop
-add-left c = search needs
-
-add-v : tie.Need-add-v Inv-loop μ-loop
-add-v c = search needs
-
-loop-less : tie.Need-loop-less Inv-loop μ-loop
-loop-less c = search needs
-
 loop-again : tie.Need-loop-again Inv-loop μ-loop
 loop-again c =
     let l = c .before .before in
@@ -71,11 +53,11 @@ unplaced-spec =
     Inv-loop
     μ-loop
     loop-holds
-    cast-if1
-    mul-if1
-    element-copy-out-if1
-    add-left
-    add-v
-    loop-less
+    (λ c. search needs)
+    (λ c. search needs)
+    (λ c. search needs)
+    (λ c. search needs)
+    (λ c. search needs)
+    (λ c. search needs)
     loop-again
     returns)

@@ -26,23 +26,11 @@ tail-in c = c .before .before .pre .tail-in _ (c .loop-test .taken)
 head-in : (c : tie.In-loop Inv-loop μ-loop) → getD (c .before .before .args .to .now) (c .before .loop .e) 0 < 64
 head-in c = c .before .before .pre .head-in _ (c .loop-test .taken)
 
-cast-i : tie.Need-cast-i Inv-loop μ-loop
-cast-i c = search needs
-
-element-copy-out-tail : tie.Need-element-copy-out-tail Inv-loop μ-loop
-element-copy-out-tail c = search needs
-
 cast-tail : tie.Need-cast-tail Inv-loop μ-loop
 cast-tail c = omega (arith, tail-in (c .before))
 
-element-copy-out-head : tie.Need-element-copy-out-head Inv-loop μ-loop
-element-copy-out-head c = search needs
-
 cast-head : tie.Need-cast-head Inv-loop μ-loop
 cast-head c = omega (arith, head-in (c .before .before))
-
-element-copy-out-blocked : tie.Need-element-copy-out-blocked Inv-loop μ-loop
-element-copy-out-blocked c = search needs
 
 element-copy-out-blocked-2 : tie.Need-element-copy-out-blocked-2 Inv-loop μ-loop
 element-copy-out-blocked-2 c = omega (arith, tail-in (c .before .before .before))
@@ -59,9 +47,6 @@ element-copy-out-blocked-4 c = omega (arith, tail-in (c .before .before .before 
 element-copy-out-blocked-5 : tie.Need-element-copy-out-blocked-5 Inv-loop μ-loop
 element-copy-out-blocked-5 c = omega (arith, tail-in (c .before .before .before .before .before))
 
-blocked-requires : tie.Need-blocked-requires Inv-loop μ-loop
-blocked-requires c κs = search needs
-
 mul-waits : tie.Need-mul-waits Inv-loop μ-loop
 mul-waits c = omega (arith, head-in (c .before .before .before .before .before .before .before))
 
@@ -75,12 +60,6 @@ add-waits c =
 
 array-write-waits : tie.Need-array-write-waits Inv-loop μ-loop
 array-write-waits c = omega (arith, head-in (c .before .before .before .before .before .before .before))
-
-add-e : tie.Need-add-e Inv-loop μ-loop
-add-e c = search needs
-
-loop-less : tie.Need-loop-less Inv-loop μ-loop
-loop-less c = search needs
 
 loop-again : tie.Need-loop-again Inv-loop μ-loop
 loop-again c =
@@ -97,23 +76,23 @@ waiting-spec =
     Inv-loop
     μ-loop
     loop-holds
-    cast-i
-    element-copy-out-tail
+    (λ c. search needs)
+    (λ c. search needs)
     cast-tail
-    element-copy-out-head
+    (λ c. search needs)
     cast-head
-    element-copy-out-blocked
+    (λ c. search needs)
     element-copy-out-blocked-2
     element-copy-out-blocked-3
     mul-blocked
     element-copy-out-blocked-4
     element-copy-out-blocked-5
-    blocked-requires
+    (λ c κs. search needs)
     mul-waits
     array-read-waits
     add-waits
     array-write-waits
-    add-e
-    loop-less
+    (λ c. search needs)
+    (λ c. search needs)
     loop-again
     returns)

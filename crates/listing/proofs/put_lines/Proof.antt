@@ -20,18 +20,6 @@ loop-holds : tie.Need-loop-holds Inv-loop μ-loop
 unfolding rows
 loop-holds c = (search tests, search tests, nothing _ _)
 
-add-put-line : tie.Need-add-put-line Inv-loop μ-loop
-add-put-line c = search tests
-
-put-line-requires : tie.Need-put-line-requires Inv-loop μ-loop
-put-line-requires c κs = search tests
-
-add-i : tie.Need-add-i Inv-loop μ-loop
-add-i c = search tests
-
-loop-less : tie.Need-loop-less Inv-loop μ-loop
-loop-less c = search tests
-
 loop-again : tie.Need-loop-again Inv-loop μ-loop
 loop-again c = (search tests, search tests, row-more _ _ _ _ _ _ _ _ (c .before .before .before .before .before .loop .inv .2) (c .before .before .put-line .ensures .1))
 
@@ -48,10 +36,10 @@ put-lines-spec =
     Inv-loop
     μ-loop
     loop-holds
-    add-put-line
-    put-line-requires
-    add-i
-    loop-less
+    (λ c. search tests)
+    (λ c κs. search tests)
+    (λ c. search tests)
+    (λ c. search tests)
     loop-again
     same-length
     returns)

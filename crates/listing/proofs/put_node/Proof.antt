@@ -8,18 +8,6 @@ use Rattle.listing.proofs.put_node.Tie as tie
 returns : tie.Need-returns
 returns c = (search needs, node-elsewhere _ _ _ _ _ _ (c .if1 .taken))
 
-put-byte-requires : tie.Need-put-byte-requires
-put-byte-requires c κs = search needs
-
-put-number-requires : tie.Need-put-number-requires
-put-number-requires c κs = search needs
-
-put-retiming-requires : tie.Need-put-retiming-requires
-put-retiming-requires c κs = search needs
-
-same-length : tie.Need-same-length
-same-length c = search needs
-
 returns-2 : tie.Need-returns-2
 returns-2 c = (search needs, node-here _ _ _ _ _ _ _ _ _ _ _ _ (c .before .before .before .before .before .before .before .before .before .before .before .before .if1 .left) (c .before .before .before .before .before .before .before .before .before .before .put-byte .ensures .1) (c .before .before .before .before .before .before .put-number .ensures .1) (c .before .before .put-retiming .ensures .1))
 
@@ -28,8 +16,8 @@ put-node-spec =
     tie.close
     (tie.spec
     returns
-    put-byte-requires
-    put-number-requires
-    put-retiming-requires
-    same-length
+    (λ c κs. search needs)
+    (λ c κs. search needs)
+    (λ c κs. search needs)
+    (λ c. search needs)
     returns-2)

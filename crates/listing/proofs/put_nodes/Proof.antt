@@ -20,27 +20,6 @@ loop-holds : tie.Need-loop-holds Inv-loop μ-loop
 unfolding rows
 loop-holds c = (search tests, search tests, nothing _ _)
 
-cast-put-node : tie.Need-cast-put-node Inv-loop μ-loop
-cast-put-node c = search tests
-
-mul-put-node : tie.Need-mul-put-node Inv-loop μ-loop
-mul-put-node c = search tests
-
-element-copy-out-put-node : tie.Need-element-copy-out-put-node Inv-loop μ-loop
-element-copy-out-put-node c = search tests
-
-element-copy-out-put-node-2 : tie.Need-element-copy-out-put-node-2 Inv-loop μ-loop
-element-copy-out-put-node-2 c = search tests
-
-put-node-requires : tie.Need-put-node-requires Inv-loop μ-loop
-put-node-requires c κs = search tests
-
-add-i : tie.Need-add-i Inv-loop μ-loop
-add-i c = search tests
-
-loop-less : tie.Need-loop-less Inv-loop μ-loop
-loop-less c = search tests
-
 loop-again : tie.Need-loop-again Inv-loop μ-loop
 loop-again c = (search tests, search tests, node-more _ _ _ _ _ _ _ _ _ _ (c .before .before .before .before .before .before .before .loop .inv .2) (c .before .before .put-node .ensures .1))
 
@@ -57,13 +36,13 @@ put-nodes-spec =
     Inv-loop
     μ-loop
     loop-holds
-    cast-put-node
-    mul-put-node
-    element-copy-out-put-node
-    element-copy-out-put-node-2
-    put-node-requires
-    add-i
-    loop-less
+    (λ c. search tests)
+    (λ c. search tests)
+    (λ c. search tests)
+    (λ c. search tests)
+    (λ c κs. search tests)
+    (λ c. search tests)
+    (λ c. search tests)
     loop-again
     same-length
     returns)

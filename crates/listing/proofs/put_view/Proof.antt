@@ -8,17 +8,8 @@ use Rattle.listing.proofs.put_view.Tie as tie
 put-form-requires : tie.Need-put-form-requires
 put-form-requires c κs = c .before .before .before .before .before .pre .shown (c .before .if1 .taken)
 
-same-length : tie.Need-same-length
-same-length c = search needs
-
 returns : tie.Need-returns
 returns c = (search needs, form-put _ _ _ _ (c .before .before .before .before .if1 .taken) (c .before .before .put-form .ensures .1))
-
-put-refused-requires : tie.Need-put-refused-requires
-put-refused-requires c κs = search needs
-
-same-length-2 : tie.Need-same-length-2
-same-length-2 c = search needs
 
 returns-2 : tie.Need-returns-2
 returns-2 c = (search needs, refused-put _ _ _ _ (c .before .before .before .before .if1 .left) (c .before .before .put-refused .ensures .1))
@@ -26,4 +17,4 @@ returns-2 c = (search needs, refused-put _ _ _ _ (c .before .before .before .bef
 pub put-view-spec : {M : Type 1} → statement M
 put-view-spec =
     tie.close
-    (tie.spec put-form-requires same-length returns put-refused-requires same-length-2 returns-2)
+    (tie.spec put-form-requires (λ c. search needs) returns (λ c κs. search needs) (λ c. search needs) returns-2)

@@ -10,15 +10,6 @@ use Rattle.listing.proofs.Accepted.{read-viewed, judged-viewed, form-vi
 use Rattle.listing.proofs.view_of.Statement.{statement}
 use Rattle.listing.proofs.view_of.Tie as tie
 
-read-requires : tie.Need-read-requires
-read-requires c κs = search needs
-
-is-fine-requires : tie.Need-is-fine-requires
-is-fine-requires c κs = search needs
-
-refused-requires : tie.Need-refused-requires
-refused-requires c κs = search needs
-
 returns : tie.Need-returns
 returns c =
     let r = c .before .before .before .before in
@@ -37,12 +28,6 @@ judge-tables-requires c κs =
     let w = read-good (r .before .before .args .«record» .now) _ (r .read .ensures) (λ i. omega (arith, r .before .shared-slice-known .given i)) fine in
     let lent = lent-form _ _ w (c .before .before .before .before .times-of .ensures) in
     (r .read .result .form, lent)
-
-is-fine-requires-2 : tie.Need-is-fine-requires-2
-is-fine-requires-2 c κs = search needs
-
-refused-requires-2 : tie.Need-refused-requires-2
-refused-requires-2 c κs = search needs
 
 returns-2 : tie.Need-returns-2
 returns-2 c =
@@ -72,14 +57,14 @@ pub view-of-spec : {M : Type 1} → statement M
 view-of-spec =
     tie.close
     (tie.spec
-    read-requires
-    is-fine-requires
-    refused-requires
+    (λ c κs. search needs)
+    (λ c κs. search needs)
+    (λ c κs. search needs)
     returns
     times-of-requires
     judge-tables-requires
-    is-fine-requires-2
-    refused-requires-2
+    (λ c κs. search needs)
+    (λ c κs. search needs)
     returns-2
     floor-tables-requires
     returns-3)

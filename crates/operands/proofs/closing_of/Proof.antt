@@ -6,18 +6,6 @@ use Rattle.operands.specs.Combined.{closing}
 use Rattle.operands.proofs.closing_of.Statement.{statement}
 use Rattle.operands.proofs.closing_of.Tie as tie
 
-enum-told : tie.Need-enum-told
-enum-told c = search needs
-
-enum-known-operation : tie.Need-enum-known-operation
-enum-known-operation c = search needs
-
-minus-requires : tie.Need-minus-requires
-minus-requires c κs = search needs
-
-enum-told-2 : tie.Need-enum-told-2
-enum-told-2 c = search needs
-
 returns : tie.Need-returns
 unfolding closing
 returns c = sym (ap (λ o. closing o (c .before .before .args .total)) (c .enum-told .given .1))
@@ -33,4 +21,4 @@ unfolding closing
 returns-3 c = sym (ap (λ o. closing o (c .before .before .args .total)) (c .enum-told2 .given .1))
 
 pub closing-of-spec : {M : Type 1} → statement M
-closing-of-spec = tie.close (tie.spec enum-told enum-known-operation minus-requires enum-told-2 returns returns-2 returns-3)
+closing-of-spec = tie.close (tie.spec (λ c. search needs) (λ c. search needs) (λ c κs. search needs) (λ c. search needs) returns returns-2 returns-3)

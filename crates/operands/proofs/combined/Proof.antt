@@ -6,24 +6,6 @@ use Rattle.operands.specs.Combined.{combined}
 use Rattle.operands.proofs.combined.Statement.{statement}
 use Rattle.operands.proofs.combined.Tie as tie
 
-enum-told : tie.Need-enum-told
-enum-told c = search needs
-
-plus-requires : tie.Need-plus-requires
-plus-requires c κs = search needs
-
-enum-told-2 : tie.Need-enum-told-2
-enum-told-2 c = search needs
-
-subtracted-requires : tie.Need-subtracted-requires
-subtracted-requires c κs = search needs
-
-enum-told-3 : tie.Need-enum-told-3
-enum-told-3 c = search needs
-
-times-requires : tie.Need-times-requires
-times-requires c κs = search needs
-
 returns : tie.Need-returns
 unfolding combined
 returns c =
@@ -43,4 +25,4 @@ returns-3 c =
     c .times .ensures ∙ sym (ap (λ o. combined o (a .begun) (a .total) (a .operand)) (c .before .enum-told3 .given .1))
 
 pub combined-spec : {M : Type 1} → statement M
-combined-spec = tie.close (tie.spec enum-told plus-requires enum-told-2 subtracted-requires enum-told-3 times-requires returns returns-2 returns-3)
+combined-spec = tie.close (tie.spec (λ c. search needs) (λ c κs. search needs) (λ c. search needs) (λ c κs. search needs) (λ c. search needs) (λ c κs. search needs) returns returns-2 returns-3)

@@ -8,15 +8,6 @@ use Rattle.operands.specs.Combined.{opening}
 use Rattle.operands.proofs.opening_of.Statement.{statement}
 use Rattle.operands.proofs.opening_of.Tie as tie
 
-enum-known-operation : tie.Need-enum-known-operation
-enum-known-operation c = search needs
-
-enum-told : tie.Need-enum-told
-enum-told c = search needs
-
-enum-known-operation-2 : tie.Need-enum-known-operation-2
-enum-known-operation-2 c = search needs
-
 returns : tie.Need-returns
 unfolding opening
 returns c =
@@ -36,4 +27,4 @@ returns-3 c =
     small ∙ sym (ap opening (c .before .operation2 .given .1))
 
 pub opening-of-spec : {M : Type 1} → statement M
-opening-of-spec = tie.close (tie.spec enum-known-operation enum-told enum-known-operation-2 returns returns-2 returns-3)
+opening-of-spec = tie.close (tie.spec (λ c. search needs) (λ c. search needs) (λ c. search needs) returns returns-2 returns-3)

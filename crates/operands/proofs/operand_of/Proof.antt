@@ -10,35 +10,11 @@ use Rattle.operands.proofs.Laws.{back-small, back-in}
 use Rattle.operands.proofs.operand_of.Statement.{statement}
 use Rattle.operands.proofs.operand_of.Tie as tie
 
-mul-result : tie.Need-mul-result
-mul-result c = search needs
-
-sub-result : tie.Need-sub-result
-sub-result c = search needs
-
-cast-result : tie.Need-cast-result
-cast-result c = search needs
-
-add-result : tie.Need-add-result
-add-result c = search needs
-
-sub-result-2 : tie.Need-sub-result-2
-sub-result-2 c = search needs
-
-mul-result-2 : tie.Need-mul-result-2
-mul-result-2 c = search needs
-
-shared-slice-read-result : tie.Need-shared-slice-read-result
-shared-slice-read-result c = search needs
-
 returns : tie.Need-returns
 unfolding handed pick
 returns c =
     let a = c .before .before .args in
     rw (lt-ltb (a .iteration .0) (a .delays) (omega arith))
-
-cast-result-2 : tie.Need-cast-result-2
-cast-result-2 c = search needs
 
 mul-result-3 : tie.Need-mul-result-3
 mul-result-3 c =
@@ -67,4 +43,4 @@ returns-2 c =
     rw (le-ltb (a .iteration .0) (a .delays) (omega arith))
 
 pub operand-of-spec : {M : Type 1} → statement M
-operand-of-spec = tie.close (tie.spec mul-result sub-result cast-result add-result sub-result-2 mul-result-2 shared-slice-read-result returns cast-result-2 mul-result-3 add-result-2 mul-result-4 shared-slice-read-result-2 returns-2)
+operand-of-spec = tie.close (tie.spec (λ c. search needs) (λ c. search needs) (λ c. search needs) (λ c. search needs) (λ c. search needs) (λ c. search needs) (λ c. search needs) returns (λ c. search needs) mul-result-3 add-result-2 mul-result-4 shared-slice-read-result-2 returns-2)

@@ -6,9 +6,6 @@ use Rattle.operands.specs.Combined.{subtracted}
 use Rattle.operands.proofs.subtracted.Statement.{statement}
 use Rattle.operands.proofs.subtracted.Tie as tie
 
-minus-requires : tie.Need-minus-requires
-minus-requires c κs = search needs
-
 returns : tie.Need-returns
 unfolding subtracted pick
 returns c = rw (c .before .if1 .taken) (c .minus .ensures)
@@ -18,4 +15,4 @@ unfolding subtracted pick
 returns-2 c = rw (c .if1 .left)
 
 pub subtracted-spec : {M : Type 1} → statement M
-subtracted-spec = tie.close (tie.spec minus-requires returns returns-2)
+subtracted-spec = tie.close (tie.spec (λ c κs. search needs) returns returns-2)

@@ -9,12 +9,9 @@ use Rattle.operands.proofs.times.Tie as tie
 mul-result : tie.Need-mul-result
 mul-result c = record { fits = below 32 (search needs) (search needs) }
 
-cast-result : tie.Need-cast-result
-cast-result c = search needs
-
 returns : tie.Need-returns
 unfolding times
 returns c = search needs
 
 pub times-spec : {M : Type 1} → statement M
-times-spec = tie.close (tie.spec mul-result cast-result returns)
+times-spec = tie.close (tie.spec mul-result (λ c. search needs) returns)

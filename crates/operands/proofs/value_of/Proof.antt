@@ -19,14 +19,8 @@ Inv-loop operation first nodes edges iteration from delays next starts values to
 abbrev μ-loop : tie.MeasureT-loop
 μ-loop operation first nodes edges iteration from delays next starts values total₀ begun₀ e₀ total begun e = edges - e
 
-opening-of-requires : tie.Need-opening-of-requires Inv-loop μ-loop
-opening-of-requires c κs = search needs
-
 loop-holds : tie.Need-loop-holds Inv-loop μ-loop
 loop-holds c = (c .before .before .before .pre .2, λ g v t f. rw (c .opening-of .ensures) (walking-first g v _ _ _ _ _ _ f))
-
-cast-i : tie.Need-cast-i Inv-loop μ-loop
-cast-i c = search needs
 
 element-copy-out-operand-of : tie.Need-element-copy-out-operand-of Inv-loop μ-loop
 element-copy-out-operand-of c = omega (arith, c .before .before .before .before .before .pre .0 .few)
@@ -39,12 +33,6 @@ operand-of-requires c κs =
     let p = c .before .before .before .before .before .before .before .pre in
     let l = c .before .before .before .loop in
     (p .0 .tail-in (l .e) (omega arith), p .0 .delay-in (l .e) (omega arith), p .1)
-
-combined-requires : tie.Need-combined-requires Inv-loop μ-loop
-combined-requires c κs = search needs
-
-mul-e : tie.Need-mul-e Inv-loop μ-loop
-mul-e c = search needs
 
 element-copy-out-e : tie.Need-element-copy-out-e Inv-loop μ-loop
 element-copy-out-e c = omega (arith, c .before .before .before .before .before .before .before .before .before .pre .0 .few)
@@ -65,13 +53,10 @@ loop-again c =
       λ g v t f. walking-on g v _ _ _ _ _ _ f _ _ _ _ t (l .e) (l .total) (l .begun) inside (l .inv .1 g v t f) _ (c .before .before .operand-of .ensures) _ (c .before .combined .ensures),
     )
 
-closing-of-requires : tie.Need-closing-of-requires Inv-loop μ-loop
-closing-of-requires c κs = search needs
-
 returns : tie.Need-returns Inv-loop μ-loop
 returns c g v t f =
     let l = c .before .before .loop in
     c .closing-of .ensures ∙ walking-end g v _ _ _ _ _ _ f (l .e) (l .total) (l .begun) (omega (arith, t .all-edges, l .inv .0)) (l .inv .1 g v t f)
 
 pub value-of-spec : {M : Type 1} → statement M
-value-of-spec = tie.close (tie.spec Inv-loop μ-loop opening-of-requires loop-holds cast-i element-copy-out-operand-of element-copy-out-operand-of-2 operand-of-requires combined-requires mul-e element-copy-out-e loop-less loop-again closing-of-requires returns)
+value-of-spec = tie.close (tie.spec Inv-loop μ-loop (λ c κs. search needs) loop-holds (λ c. search needs) element-copy-out-operand-of element-copy-out-operand-of-2 operand-of-requires (λ c κs. search needs) (λ c. search needs) element-copy-out-e loop-less loop-again (λ c κs. search needs) returns)

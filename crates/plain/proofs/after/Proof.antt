@@ -7,19 +7,13 @@ use Rattle.plain.specs.Turns.{next}
 use Rattle.plain.proofs.after.Statement.{statement}
 use Rattle.plain.proofs.after.Tie as tie
 
-add-place : tie.Need-add-place
-add-place c = search needs
-
 returns : tie.Need-returns
 unfolding next pick
 returns c = rw (lt-ltb _ _ (c .if1 .taken))
-
-add-t7 : tie.Need-add-t7
-add-t7 c = search needs
 
 returns-2 : tie.Need-returns-2
 unfolding next pick
 returns-2 c = rw (le-ltb _ _ (c .if1 .left))
 
 pub after-spec : {M : Type 1} → statement M
-after-spec = tie.close (tie.spec add-place returns add-t7 returns-2)
+after-spec = tie.close (tie.spec (λ c. search needs) returns (λ c. search needs) returns-2)

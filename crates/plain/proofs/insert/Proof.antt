@@ -20,20 +20,8 @@ Inv-loop order₀ node rank own carried₀ higher₀ k₀ order carried higher k
 abbrev μ-loop : tie.MeasureT-loop
 μ-loop order₀ node rank own carried₀ higher₀ k₀ order carried higher k = node - k
 
-mul-own : tie.Need-mul-own Inv-loop μ-loop
-mul-own c = search needs
-
-element-copy-out-own : tie.Need-element-copy-out-own Inv-loop μ-loop
-element-copy-out-own c = search needs
-
 loop-holds : tie.Need-loop-holds Inv-loop μ-loop
 loop-holds c = (search needs, record { size = c .before .pre .0 .0; small = λ i a b. c .before .pre .1 i b; placing = placing-none _ _ _ _ })
-
-cast-i : tie.Need-cast-i Inv-loop μ-loop
-cast-i c = search needs
-
-element-copy-out-u : tie.Need-element-copy-out-u Inv-loop μ-loop
-element-copy-out-u c = search needs
 
 cast-passed : tie.Need-cast-passed Inv-loop μ-loop
 cast-passed c = omega (arith, c .before .before .loop .inv .1 .small (c .before .before .loop .k) (omega arith) (omega arith))
@@ -43,18 +31,6 @@ mul-passed c = omega (arith, c .before .before .loop .inv .1 .small (c .before .
 
 element-copy-out-passed : tie.Need-element-copy-out-passed Inv-loop μ-loop
 element-copy-out-passed c = c .before .before .loop .inv .1 .small (c .before .before .loop .k) (omega arith) (omega arith)
-
-passed-requires : tie.Need-passed-requires Inv-loop μ-loop
-passed-requires c κs = search needs
-
-element-write-order : tie.Need-element-write-order Inv-loop μ-loop
-element-write-order c = search needs
-
-add-k : tie.Need-add-k Inv-loop μ-loop
-add-k c = search needs
-
-loop-less : tie.Need-loop-less Inv-loop μ-loop
-loop-less c = search needs
 
 loop-again : tie.Need-loop-again Inv-loop μ-loop
 loop-again c =
@@ -67,9 +43,6 @@ loop-again c =
           (c .if1 .came),
     )
 
-element-write-order-2 : tie.Need-element-write-order-2 Inv-loop μ-loop
-element-write-order-2 c = search needs
-
 returns : tie.Need-returns Inv-loop μ-loop
 returns c =
     let l = c .before in
@@ -78,4 +51,4 @@ returns c =
     (simp length-set (s .size), placing-end _ _ _ _ _ _ _ (omega (arith, s .size)) (rw e at (s .placing)))
 
 pub insert-spec : {M : Type 1} → statement M
-insert-spec = tie.close (tie.spec Inv-loop μ-loop mul-own element-copy-out-own loop-holds cast-i element-copy-out-u cast-passed mul-passed element-copy-out-passed passed-requires element-write-order add-k loop-less loop-again element-write-order-2 returns)
+insert-spec = tie.close (tie.spec Inv-loop μ-loop (λ c. search needs) (λ c. search needs) loop-holds (λ c. search needs) (λ c. search needs) cast-passed mul-passed element-copy-out-passed (λ c κs. search needs) (λ c. search needs) (λ c. search needs) (λ c. search needs) loop-again (λ c. search needs) returns)

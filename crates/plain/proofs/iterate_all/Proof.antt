@@ -50,12 +50,6 @@ array-read-v c = omega (arith, c .before .before .before .before .before .before
 cast-v : tie.Need-cast-v Inv-loop μ-loop
 cast-v c = omega (arith, node-small c)
 
-cast-row : tie.Need-cast-row Inv-loop μ-loop
-cast-row c = search needs
-
-cast-row-2 : tie.Need-cast-row-2 Inv-loop μ-loop
-cast-row-2 c = search needs
-
 mul-row : tie.Need-mul-row Inv-loop μ-loop
 mul-row c = omega (arith, place-small (c .before .before .loop .turn .iteration) (c .before .before .before .before .before .before .before .before .args .t1 .nodes) 0 (omega arith) (omega arith) (omega arith))
 
@@ -117,4 +111,4 @@ returns : tie.Need-returns Inv-loop μ-loop
 returns c = come-last _ _ _ _ _ _ _ _ (c .if1 .left) (c .before .before .loop .inv)
 
 pub iterate-all-spec : {M : Type 1} → statement M
-iterate-all-spec = tie.close (tie.spec Inv-loop μ-loop links-of-requires loop-holds array-read-v cast-v cast-row cast-row-2 mul-row mul-node element-copy-out-node mul-value-of element-copy-out-value-of value-of-requires add-values mul-values slice-write-values after-requires loop-less loop-again same-length returns)
+iterate-all-spec = tie.close (tie.spec Inv-loop μ-loop links-of-requires loop-holds array-read-v cast-v (λ c. search needs) (λ c. search needs) mul-row mul-node element-copy-out-node mul-value-of element-copy-out-value-of value-of-requires add-values mul-values slice-write-values after-requires loop-less loop-again same-length returns)

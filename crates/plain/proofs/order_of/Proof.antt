@@ -24,12 +24,6 @@ insert-requires c κs =
     let l = c .before .before .loop in
     ((l .inv .1, omega arith), table-below _ _ 64 _ (omega arith) (omega arith) (l .inv .2))
 
-add-v : tie.Need-add-v Inv-loop μ-loop
-add-v c = search needs
-
-loop-less : tie.Need-loop-less Inv-loop μ-loop
-loop-less c = search needs
-
 loop-again : tie.Need-loop-again Inv-loop μ-loop
 loop-again c =
     let l = c .before .before .before .loop in
@@ -42,4 +36,4 @@ returns c =
     (l .inv .1, rw e at (l .inv .2))
 
 pub order-of-spec : {M : Type 1} → statement M
-order-of-spec = tie.close (tie.spec Inv-loop μ-loop loop-holds insert-requires add-v loop-less loop-again returns)
+order-of-spec = tie.close (tie.spec Inv-loop μ-loop loop-holds insert-requires (λ c. search needs) (λ c. search needs) loop-again returns)

@@ -4,11 +4,8 @@ use borrow.Author.Needs.{needs}
 use Rattle.plain.proofs.passed.Statement.{statement}
 use Rattle.plain.proofs.passed.Tie as tie
 
-returns : tie.Need-returns
-returns c = search needs
-
 returns-2 : tie.Need-returns-2
 returns-2 c = rw (c .if1 .left)
 
 pub passed-spec : {M : Type 1} → statement M
-passed-spec = tie.close (tie.spec returns returns-2)
+passed-spec = tie.close (tie.spec (λ c. search needs) returns-2)

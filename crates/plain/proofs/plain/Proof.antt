@@ -9,15 +9,6 @@ use Rattle.plain.proofs.Answers.{record-refused, record-looped}
 use Rattle.plain.proofs.plain.Statement.{statement}
 use Rattle.plain.proofs.plain.Tie as tie
 
-read-requires : tie.Need-read-requires
-read-requires c κs = search needs
-
-is-fine-requires : tie.Need-is-fine-requires
-is-fine-requires c κs = search needs
-
-alone-requires : tie.Need-alone-requires
-alone-requires c κs = search needs
-
 returns : tie.Need-returns
 returns c =
     record-refused _ _ (c .before .before .before .read .ensures) _ _ _ _ _ (sym (c .before .before .is-fine .ensures) ∙ not-true _ (c .before .if1 .taken)) (c .alone .ensures .0) (c .alone .ensures .1) refl
@@ -28,12 +19,9 @@ plain-form-requires c κs =
     read-good (s .args .«record» .now) _ (c .before .before .before .before .read .ensures) (λ i. omega (arith, c .before .before .before .before .before .before .before .shared-slice-known .given i))
     (sym (c .before .before .before .is-fine .ensures) ∙ not-false _ (c .before .before .if1 .left))
 
-same-length : tie.Need-same-length
-same-length c = search needs
-
 returns-2 : tie.Need-returns-2
 returns-2 c =
     record-looped _ _ (c .before .before .before .before .before .before .before .read .ensures) _ _ _ _ _ (sym (c .before .before .before .before .before .before .is-fine .ensures) ∙ not-false _ (c .before .before .before .before .before .if1 .left)) (c .before .before .plain-form .ensures)
 
 pub plain-spec : {M : Type 1} → statement M
-plain-spec = tie.close (tie.spec read-requires is-fine-requires alone-requires returns plain-form-requires same-length returns-2)
+plain-spec = tie.close (tie.spec (λ c κs. search needs) (λ c κs. search needs) (λ c κs. search needs) returns plain-form-requires (λ c. search needs) returns-2)

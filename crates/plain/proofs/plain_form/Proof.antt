@@ -19,23 +19,11 @@ returns c =
     let s = c .before .before .before .before .before .before .before .before .before .before in
     looped-knot (s .args .t1) _ _ _ _ (c .before .before .before .ranked .ensures (loopOf (s .args .t1)) (told-form (s .args .t1)) .found) (omega (arith, c .if1 .taken))
 
-room-of-requires : tie.Need-room-of-requires
-room-of-requires c κs = search needs
-
-is-fine-requires : tie.Need-is-fine-requires
-is-fine-requires c κs = search needs
-
-alone-requires : tie.Need-alone-requires
-alone-requires c κs = search needs
-
 returns-2 : tie.Need-returns-2
 returns-2 c =
     let s = c .before .before .before .before .before .before .before .before .before .before .before .before .before .before in
     looped-refused (s .args .t1) _ _ _ _ (c .before .before .before .before .before .before .before .ranked .ensures (loopOf (s .args .t1)) (told-form (s .args .t1)) .found) (omega (arith, c .before .before .before .before .if1 .left)) _ (c .before .before .before .room-of .ensures) _ (c .alone .ensures .1)
     (sym (c .before .before .is-fine .ensures) ∙ not-true _ (c .before .if2 .taken)) (c .alone .ensures .0)
-
-order-of-requires : tie.Need-order-of-requires
-order-of-requires c κs = search needs
 
 iterate-all-requires : tie.Need-iterate-all-requires
 iterate-all-requires c κs =
@@ -43,12 +31,6 @@ iterate-all-requires c κs =
     let fits = room-for (s .args .t1 .nodes) _ _ _ _ (c .before .before .before .before .before .before .room-of .ensures) (sym (c .before .before .before .before .before .is-fine .ensures) ∙ not-false _ (c .before .before .before .before .if2 .left)) in
     let o = c .before .order-of .ensures in
     (s .pre, ((o .0, table-below _ (s .args .t1 .nodes) (s .args .t1 .nodes) _ (omega arith) (omega (arith, s .pre .nodes .0)) (o .1)), (fits .0, omega (arith, fits .1))))
-
-alone-requires-2 : tie.Need-alone-requires-2
-alone-requires-2 c κs = search needs
-
-same-length : tie.Need-same-length
-same-length c = search needs
 
 returns-3 : tie.Need-returns-3
 returns-3 c =
@@ -59,4 +41,4 @@ returns-3 c =
     (sym (c .before .before .before .before .before .before .before .before .before .is-fine .ensures) ∙ not-false _ (c .before .before .before .before .before .before .before .before .if2 .left)) (c .alone2 .ensures .0) _ (c .before .before .before .before .before .order-of .ensures .1) _ (c .before .before .before .iterate-all .ensures)
 
 pub plain-form-spec : {M : Type 1} → statement M
-plain-form-spec = tie.close (tie.spec ranked-requires returns room-of-requires is-fine-requires alone-requires returns-2 order-of-requires iterate-all-requires alone-requires-2 same-length returns-3)
+plain-form-spec = tie.close (tie.spec ranked-requires returns (λ c κs. search needs) (λ c κs. search needs) (λ c κs. search needs) returns-2 (λ c κs. search needs) iterate-all-requires (λ c κs. search needs) (λ c. search needs) returns-3)

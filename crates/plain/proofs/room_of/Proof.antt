@@ -9,9 +9,6 @@ use Rattle.plain.specs.Answer.{roomOf}
 use Rattle.plain.proofs.room_of.Statement.{statement}
 use Rattle.plain.proofs.room_of.Tie as tie
 
-mul-if1 : tie.Need-mul-if1
-mul-if1 c = search needs
-
 returns : tie.Need-returns
 unfolding roomOf pick
 returns c = rw (lt-ltb _ _ (c .if1 .taken))
@@ -30,4 +27,4 @@ unfolding roomOf pick
 returns-3 c = rw (le-ltb _ _ (c .before .if1 .left), le-ltb _ _ (c .if2 .left))
 
 pub room-of-spec : {M : Type 1} → statement M
-room-of-spec = tie.close (tie.spec mul-if1 returns mul-if2 returns-2 returns-3)
+room-of-spec = tie.close (tie.spec (λ c. search needs) returns mul-if2 returns-2 returns-3)

@@ -22,9 +22,6 @@ abbrev μ-loop : tie.MeasureT-loop
 loop-holds : tie.Need-loop-holds Inv-loop μ-loop
 loop-holds c = (c .pre .2, c .pre .1, omega arith, λ g r v t k. k)
 
-cast-node : tie.Need-cast-node Inv-loop μ-loop
-cast-node c = search needs
-
 element-copy-out-node : tie.Need-element-copy-out-node Inv-loop μ-loop
 element-copy-out-node c =
     let l = c .before .loop in
@@ -34,12 +31,6 @@ spread-requires : tie.Need-spread-requires Inv-loop μ-loop
 spread-requires c κs =
     let l = c .before .before .before .before .loop in
     (c .before .before .before .before .before .pre .0, l .inv .1, l .inv .1 .node-in _ (omega arith))
-
-add-i : tie.Need-add-i Inv-loop μ-loop
-add-i c = search needs
-
-loop-less : tie.Need-loop-less Inv-loop μ-loop
-loop-less c = search needs
 
 loop-again : tie.Need-loop-again Inv-loop μ-loop
 loop-again c =
@@ -67,10 +58,10 @@ level-spec =
     Inv-loop
     μ-loop
     loop-holds
-    cast-node
+    (λ c. search needs)
     element-copy-out-node
     spread-requires
-    add-i
-    loop-less
+    (λ c. search needs)
+    (λ c. search needs)
     loop-again
     returns)

@@ -9,14 +9,8 @@ use Rattle.reach.proofs.mark.Tie as tie
 returns : tie.Need-returns
 returns c = met-still _ _ _ _ _ (c .before .pre .0) (λ t. absurd (omega arith))
 
-element-copy-out-if2 : tie.Need-element-copy-out-if2
-element-copy-out-if2 c = search needs
-
 returns-2 : tie.Need-returns-2
 returns-2 c = met-still _ _ _ _ _ (c .before .before .before .pre .0) (λ t. omega arith)
-
-element-write-marks : tie.Need-element-write-marks
-element-write-marks c = search needs
 
 element-write-queue : tie.Need-element-write-queue
 element-write-queue c =
@@ -34,9 +28,9 @@ mark-spec =
     tie.close
     (tie.spec
     returns
-    element-copy-out-if2
+    (λ c. search needs)
     returns-2
-    element-write-marks
+    (λ c. search needs)
     element-write-queue
     add-result
     returns-3)

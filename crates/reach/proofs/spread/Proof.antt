@@ -20,19 +20,10 @@ Inv-loop marks₀ queue₀ node from edges first next heads tights end₀ e₀ m
 abbrev μ-loop : tie.MeasureT-loop
 μ-loop marks₀ queue₀ node from edges first next heads tights end₀ e₀ marks queue end e = edges - e
 
-mul-e : tie.Need-mul-e Inv-loop μ-loop
-mul-e c = search needs
-
-element-copy-out-e : tie.Need-element-copy-out-e Inv-loop μ-loop
-element-copy-out-e c = search needs
-
 loop-holds : tie.Need-loop-holds Inv-loop μ-loop
 loop-holds c =
     let p = c .before .pre in
     (p .0 .begins _ (p .2), p .1, omega arith, λ g r v f t h k. half-first g r _ _ _ _ _ t v _ _ _ f _ (p .2) h k)
-
-cast-i : tie.Need-cast-i Inv-loop μ-loop
-cast-i c = search needs
 
 element-copy-out-mark : tie.Need-element-copy-out-mark Inv-loop μ-loop
 element-copy-out-mark c = omega (arith, c .before .before .before .before .before .pre .0 .few)
@@ -44,9 +35,6 @@ mark-requires : tie.Need-mark-requires Inv-loop μ-loop
 mark-requires c κs =
     let l = c .before .before .before .before .before .loop in
     (l .inv .1, c .before .before .before .before .before .before .before .pre .0 .head-in (l .e) (omega arith))
-
-mul-e-2 : tie.Need-mul-e-2 Inv-loop μ-loop
-mul-e-2 c = search needs
 
 element-copy-out-e-2 : tie.Need-element-copy-out-e-2 Inv-loop μ-loop
 element-copy-out-e-2 c = omega (arith, c .before .before .before .before .before .before .before .before .pre .0 .few)
@@ -84,14 +72,14 @@ spread-spec =
     (tie.spec
     Inv-loop
     μ-loop
-    mul-e
-    element-copy-out-e
+    (λ c. search needs)
+    (λ c. search needs)
     loop-holds
-    cast-i
+    (λ c. search needs)
     element-copy-out-mark
     element-copy-out-mark-2
     mark-requires
-    mul-e-2
+    (λ c. search needs)
     element-copy-out-e-2
     loop-less
     loop-again

@@ -30,41 +30,11 @@ ends c =
 loop-holds : tie.Need-loop-holds Inv-loop μ-loop
 loop-holds c = (search needs, search needs, λ k h. absurd (not-suc-le-zero h))
 
-cast-loop : tie.Need-cast-loop Inv-loop μ-loop
-cast-loop c = search needs
-
-element-copy-out-tail : tie.Need-element-copy-out-tail Inv-loop μ-loop
-element-copy-out-tail c = search needs
-
-cast-tail : tie.Need-cast-tail Inv-loop μ-loop
-cast-tail c = search needs
-
-element-copy-out-head : tie.Need-element-copy-out-head Inv-loop μ-loop
-element-copy-out-head c = search needs
-
-cast-head : tie.Need-cast-head Inv-loop μ-loop
-cast-head c = search needs
-
-element-copy-out-tight-mark : tie.Need-element-copy-out-tight-mark Inv-loop μ-loop
-element-copy-out-tight-mark c = search needs
-
 element-copy-out-tight-mark-2 : tie.Need-element-copy-out-tight-mark-2 Inv-loop μ-loop
 element-copy-out-tight-mark-2 c = omega (arith, ends (c .before .before .before))
 
 element-copy-out-tight-mark-3 : tie.Need-element-copy-out-tight-mark-3 Inv-loop μ-loop
 element-copy-out-tight-mark-3 c = omega (arith, ends (c .before .before .before .before))
-
-tight-mark-requires : tie.Need-tight-mark-requires Inv-loop μ-loop
-tight-mark-requires c κs = search needs
-
-array-write-tights : tie.Need-array-write-tights Inv-loop μ-loop
-array-write-tights c = search needs
-
-add-e : tie.Need-add-e Inv-loop μ-loop
-add-e c = search needs
-
-loop-less : tie.Need-loop-less Inv-loop μ-loop
-loop-less c = search needs
 
 loop-again : tie.Need-loop-again Inv-loop μ-loop
 loop-again c =
@@ -81,17 +51,17 @@ tights-of-spec =
     Inv-loop
     μ-loop
     loop-holds
-    cast-loop
-    element-copy-out-tail
-    cast-tail
-    element-copy-out-head
-    cast-head
-    element-copy-out-tight-mark
+    (λ c. search needs)
+    (λ c. search needs)
+    (λ c. search needs)
+    (λ c. search needs)
+    (λ c. search needs)
+    (λ c. search needs)
     element-copy-out-tight-mark-2
     element-copy-out-tight-mark-3
-    tight-mark-requires
-    array-write-tights
-    add-e
-    loop-less
+    (λ c κs. search needs)
+    (λ c. search needs)
+    (λ c. search needs)
+    (λ c. search needs)
     loop-again
     returns)

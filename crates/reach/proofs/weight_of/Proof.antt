@@ -7,12 +7,6 @@ use Rattle.reach.proofs.Marks.{queued-start, marking-start, weight-is}
 use Rattle.reach.proofs.weight_of.Statement.{statement}
 use Rattle.reach.proofs.weight_of.Tie as tie
 
-array-write-marks : tie.Need-array-write-marks
-array-write-marks c = search needs
-
-array-write-queue : tie.Need-array-write-queue
-array-write-queue c = search needs
-
 reach-requires : tie.Need-reach-requires
 reach-requires c κs =
     let s = c .before .before in
@@ -30,4 +24,4 @@ returns c g r n told =
 
 pub weight-of-spec : {M : Type 1} → statement M
 weight-of-spec =
-    tie.close (tie.spec array-write-marks array-write-queue reach-requires sub-result returns)
+    tie.close (tie.spec (λ c. search needs) (λ c. search needs) reach-requires sub-result returns)

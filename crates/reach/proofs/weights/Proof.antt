@@ -20,9 +20,6 @@ Inv-loop form tights out weights₀ v₀ v-end weights v =
 abbrev μ-loop : tie.MeasureT-loop
 μ-loop form tights out weights₀ v₀ v-end weights v = v-end - v
 
-tights-of-requires : tie.Need-tights-of-requires Inv-loop μ-loop
-tights-of-requires c κs = search needs
-
 links-of-requires : tie.Need-links-of-requires Inv-loop μ-loop
 links-of-requires c κs =
     let w = c .before .before .before .pre in
@@ -36,18 +33,6 @@ weight-of-requires c κs =
     let s = c .before .before .before .before .before .before .before .before in
     let w = s .before .before .before .before .pre in
     (search needs, search needs, fits-form _ _ _ _ _ w (s .links-of .ensures .chains) (λ e l. omega (arith, w .nodes, w .edge e l)))
-
-cast-weights : tie.Need-cast-weights Inv-loop μ-loop
-cast-weights c = search needs
-
-array-write-weights : tie.Need-array-write-weights Inv-loop μ-loop
-array-write-weights c = search needs
-
-add-v : tie.Need-add-v Inv-loop μ-loop
-add-v c = search needs
-
-loop-less : tie.Need-loop-less Inv-loop μ-loop
-loop-less c = search needs
 
 loop-again : tie.Need-loop-again Inv-loop μ-loop
 loop-again c =
@@ -69,13 +54,13 @@ weights-spec =
     (tie.spec
     Inv-loop
     μ-loop
-    tights-of-requires
+    (λ c κs. search needs)
     links-of-requires
     loop-holds
     weight-of-requires
-    cast-weights
-    array-write-weights
-    add-v
-    loop-less
+    (λ c. search needs)
+    (λ c. search needs)
+    (λ c. search needs)
+    (λ c. search needs)
     loop-again
     returns)

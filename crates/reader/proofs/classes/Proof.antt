@@ -24,28 +24,10 @@ abbrev μ-loop : tie.MeasureT-loop
 loop-holds : tie.Need-loop-holds Inv-loop μ-loop
 loop-holds c = (search needs, omega arith, λ f. begin _ _ _ _)
 
-is-fine-requires : tie.Need-is-fine-requires Inv-loop μ-loop
-is-fine-requires c κs = search needs
-
 returns : tie.Need-returns Inv-loop μ-loop
 returns c f =
     let l = c .before .before .before .loop in
     stop _ _ _ _ _ _ (l .inv .2 f) (c .before .before .loop-test .taken) (sym (c .before .is-fine .ensures) ∙ not-true _ (c .if1 .taken))
-
-class-row-requires : tie.Need-class-row-requires Inv-loop μ-loop
-class-row-requires c κs = search needs
-
-mul-class : tie.Need-mul-class Inv-loop μ-loop
-mul-class c = search needs
-
-array-set-from-class : tie.Need-array-set-from-class Inv-loop μ-loop
-array-set-from-class c = search needs
-
-add-i : tie.Need-add-i Inv-loop μ-loop
-add-i c = search needs
-
-loop-less : tie.Need-loop-less Inv-loop μ-loop
-loop-less c = search needs
 
 loop-again : tie.Need-loop-again Inv-loop μ-loop
 unfolding classStep
@@ -68,12 +50,12 @@ classes-spec =
     Inv-loop
     μ-loop
     loop-holds
-    is-fine-requires
+    (λ c κs. search needs)
     returns
-    class-row-requires
-    mul-class
-    array-set-from-class
-    add-i
-    loop-less
+    (λ c κs. search needs)
+    (λ c. search needs)
+    (λ c. search needs)
+    (λ c. search needs)
+    (λ c. search needs)
     loop-again
     returns-2)

@@ -26,31 +26,10 @@ abbrev μ-loop : tie.MeasureT-loop
 loop-holds : tie.Need-loop-holds Inv-loop μ-loop
 loop-holds c = (search needs, search needs, search needs, omega arith, λ f k. begin _ _ _ _)
 
-is-fine-requires : tie.Need-is-fine-requires Inv-loop μ-loop
-is-fine-requires c κs = search needs
-
 returns : tie.Need-returns Inv-loop μ-loop
 returns c f k =
     let l = c .before .before .before .loop in
     stop _ _ _ _ _ _ (l .inv .4 f k) (c .before .before .loop-test .taken) (sym (c .before .is-fine .ensures) ∙ not-true _ (c .if1 .taken))
-
-edge-row-requires : tie.Need-edge-row-requires Inv-loop μ-loop
-edge-row-requires c κs = search needs
-
-array-write-from : tie.Need-array-write-from Inv-loop μ-loop
-array-write-from c = search needs
-
-array-write-to : tie.Need-array-write-to Inv-loop μ-loop
-array-write-to c = search needs
-
-array-write-delays : tie.Need-array-write-delays Inv-loop μ-loop
-array-write-delays c = search needs
-
-add-i : tie.Need-add-i Inv-loop μ-loop
-add-i c = search needs
-
-loop-less : tie.Need-loop-less Inv-loop μ-loop
-loop-less c = search needs
 
 loop-again : tie.Need-loop-again Inv-loop μ-loop
 unfolding edgeStep
@@ -75,13 +54,13 @@ edges-spec =
     Inv-loop
     μ-loop
     loop-holds
-    is-fine-requires
+    (λ c κs. search needs)
     returns
-    edge-row-requires
-    array-write-from
-    array-write-to
-    array-write-delays
-    add-i
-    loop-less
+    (λ c κs. search needs)
+    (λ c. search needs)
+    (λ c. search needs)
+    (λ c. search needs)
+    (λ c. search needs)
+    (λ c. search needs)
     loop-again
     returns-2)

@@ -6,9 +6,6 @@ use borrow.Author.Needs.{needs}
 use Rattle.reader.proofs.first_of.Statement.{statement}
 use Rattle.reader.proofs.first_of.Tie as tie
 
-is-fine-requires : tie.Need-is-fine-requires
-is-fine-requires c κs = search needs
-
 returns : tie.Need-returns
 returns c = sym (pick-true _ _ _ (sym (c .before .is-fine .ensures) ∙ c .if1 .taken))
 
@@ -16,4 +13,4 @@ returns-2 : tie.Need-returns-2
 returns-2 c = sym (pick-false _ _ _ (sym (c .before .is-fine .ensures) ∙ c .if1 .left))
 
 pub first-of-spec : {M : Type 1} → statement M
-first-of-spec = tie.close (tie.spec is-fine-requires returns returns-2)
+first-of-spec = tie.close (tie.spec (λ c κs. search needs) returns returns-2)

@@ -7,36 +7,6 @@ use borrow.Author.Needs.{needs}
 use Rattle.reader.proofs.header.Statement.{statement}
 use Rattle.reader.proofs.header.Tie as tie
 
-take-requires : tie.Need-take-requires
-take-requires c κs = search needs
-
-take-requires-2 : tie.Need-take-requires-2
-take-requires-2 c κs = search needs
-
-take-requires-3 : tie.Need-take-requires-3
-take-requires-3 c κs = search needs
-
-take-requires-4 : tie.Need-take-requires-4
-take-requires-4 c κs = search needs
-
-take-requires-5 : tie.Need-take-requires-5
-take-requires-5 c κs = search needs
-
-take-requires-6 : tie.Need-take-requires-6
-take-requires-6 c κs = search needs
-
-cast-t17 : tie.Need-cast-t17
-cast-t17 c = search needs
-
-cast-t18 : tie.Need-cast-t18
-cast-t18 c = search needs
-
-cast-t19 : tie.Need-cast-t19
-cast-t19 c = search needs
-
-cast-t20 : tie.Need-cast-t20
-cast-t20 c = search needs
-
 returns : tie.Need-returns
 unfolding headerOf emptyForm
 returns c =
@@ -74,14 +44,14 @@ pub header-spec : {M : Type 1} → statement M
 header-spec =
     tie.close
     (tie.spec
-    take-requires
-    take-requires-2
-    take-requires-3
-    take-requires-4
-    take-requires-5
-    take-requires-6
-    cast-t17
-    cast-t18
-    cast-t19
-    cast-t20
+    (λ c κs. search needs)
+    (λ c κs. search needs)
+    (λ c κs. search needs)
+    (λ c κs. search needs)
+    (λ c κs. search needs)
+    (λ c κs. search needs)
+    (λ c. search needs)
+    (λ c. search needs)
+    (λ c. search needs)
+    (λ c. search needs)
     returns)

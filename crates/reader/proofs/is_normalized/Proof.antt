@@ -11,12 +11,9 @@ returns : tie.Need-returns
 unfolding normalized pick
 returns c = search tests
 
-some-zero-requires : tie.Need-some-zero-requires
-some-zero-requires c κs = search needs
-
 returns-2 : tie.Need-returns-2
 unfolding normalized pick
 returns-2 c = rw (c .some-zero .ensures) (search tests)
 
 pub is-normalized-spec : {M : Type 1} → statement M
-is-normalized-spec = tie.close (tie.spec returns some-zero-requires returns-2)
+is-normalized-spec = tie.close (tie.spec returns (λ c κs. search needs) returns-2)

@@ -5,17 +5,8 @@ use borrow.Author.Needs.{needs}
 use Rattle.reader.proofs.last_of.Statement.{statement}
 use Rattle.reader.proofs.last_of.Tie as tie
 
-returns : tie.Need-returns
-returns c = search needs
-
-sub-result : tie.Need-sub-result
-sub-result c = search needs
-
-cast-result : tie.Need-cast-result
-cast-result c = search needs
-
 returns-2 : tie.Need-returns-2
 returns-2 c = (omega arith, omega arith)
 
 pub last-of-spec : {M : Type 1} → statement M
-last-of-spec = tie.close (tie.spec returns sub-result cast-result returns-2)
+last-of-spec = tie.close (tie.spec (λ c. search needs) (λ c. search needs) (λ c. search needs) returns-2)

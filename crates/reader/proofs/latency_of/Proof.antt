@@ -12,19 +12,10 @@ use borrow.Author.Needs.{needs}
 use Rattle.reader.proofs.latency_of.Statement.{statement}
 use Rattle.reader.proofs.latency_of.Tie as tie
 
-mul-result : tie.Need-mul-result
-mul-result c = search needs
-
-element-copy-out-result : tie.Need-element-copy-out-result
-element-copy-out-result c = search needs
-
-returns : tie.Need-returns
-returns c = search needs
-
 returns-2 : tie.Need-returns-2
 returns-2 c =
     let l : length (c .before .args .t1) ≡ 4 = search tests in
     sym (ap (λ (k : Class). k .latency) (List·getD-eq-default (c .before .args .t1) noClass (omega arith)))
 
 pub latency-of-spec : {M : Type 1} → statement M
-latency-of-spec = tie.close (tie.spec mul-result element-copy-out-result returns returns-2)
+latency-of-spec = tie.close (tie.spec (λ c. search needs) (λ c. search needs) (λ c. search needs) returns-2)

@@ -24,28 +24,10 @@ abbrev μ-loop : tie.MeasureT-loop
 loop-holds : tie.Need-loop-holds Inv-loop μ-loop
 loop-holds c = (search needs, omega arith, λ f k. begin _ _ _ _)
 
-is-fine-requires : tie.Need-is-fine-requires Inv-loop μ-loop
-is-fine-requires c κs = search needs
-
 returns : tie.Need-returns Inv-loop μ-loop
 returns c f k =
     let l = c .before .before .before .loop in
     stop _ _ _ _ _ _ (l .inv .2 f k) (c .before .before .loop-test .taken) (sym (c .before .is-fine .ensures) ∙ not-true _ (c .if1 .taken))
-
-node-row-requires : tie.Need-node-row-requires Inv-loop μ-loop
-node-row-requires c κs = search needs
-
-mul-node : tie.Need-mul-node Inv-loop μ-loop
-mul-node c = search needs
-
-array-set-from-node : tie.Need-array-set-from-node Inv-loop μ-loop
-array-set-from-node c = search needs
-
-add-i : tie.Need-add-i Inv-loop μ-loop
-add-i c = search needs
-
-loop-less : tie.Need-loop-less Inv-loop μ-loop
-loop-less c = search needs
 
 loop-again : tie.Need-loop-again Inv-loop μ-loop
 unfolding nodeStep
@@ -68,12 +50,12 @@ nodes-spec =
     Inv-loop
     μ-loop
     loop-holds
-    is-fine-requires
+    (λ c κs. search needs)
     returns
-    node-row-requires
-    mul-node
-    array-set-from-node
-    add-i
-    loop-less
+    (λ c κs. search needs)
+    (λ c. search needs)
+    (λ c. search needs)
+    (λ c. search needs)
+    (λ c. search needs)
     loop-again
     returns-2)

@@ -10,12 +10,6 @@ use Rattle.reader.proofs.Laws.{answered-refused, answered-fine}
 use Rattle.reader.proofs.read.Statement.{statement}
 use Rattle.reader.proofs.read.Tie as tie
 
-header-requires : tie.Need-header-requires
-header-requires c κs = search needs
-
-classes-requires : tie.Need-classes-requires
-classes-requires c κs = search needs
-
 nodes-requires : tie.Need-nodes-requires
 nodes-requires c κs =
     let k = c .before in
@@ -37,9 +31,6 @@ edges-requires c κs =
         v .nodes .ensures (withCounts emptyForm _ 0 0 0) refl .near,
       ),
     )
-
-scheduled-nodes-requires : tie.Need-scheduled-nodes-requires
-scheduled-nodes-requires c κs = search needs
 
 starts-requires : tie.Need-starts-requires
 starts-requires c κs =
@@ -83,12 +74,6 @@ end-of-requires c κs =
       ),
     )
 
-is-fine-requires : tie.Need-is-fine-requires
-is-fine-requires c κs = search needs
-
-refused-requires : tie.Need-refused-requires
-refused-requires c κs = search needs
-
 returns : tie.Need-returns
 returns c =
     let end = c .before .before .before in
@@ -115,14 +100,14 @@ pub read-spec : {M : Type 1} → statement M
 read-spec =
     tie.close
     (tie.spec
-    header-requires
-    classes-requires
+    (λ c κs. search needs)
+    (λ c κs. search needs)
     nodes-requires
     edges-requires
-    scheduled-nodes-requires
+    (λ c κs. search needs)
     starts-requires
     end-of-requires
-    is-fine-requires
-    refused-requires
+    (λ c κs. search needs)
+    (λ c κs. search needs)
     returns
     returns-2)

@@ -19,17 +19,8 @@ loop-holds : tie.Need-loop-holds Inv-loop μ-loop
 unfolding someZero
 loop-holds c = (search needs, rw sub-zero)
 
-array-read-if1 : tie.Need-array-read-if1 Inv-loop μ-loop
-array-read-if1 c = search needs
-
 returns : tie.Need-returns Inv-loop μ-loop
 returns c = zero-here _ _ _ _ (c .before .loop-test .taken) (c .if1 .taken) (c .before .before .loop .inv .1)
-
-add-i : tie.Need-add-i Inv-loop μ-loop
-add-i c = search needs
-
-loop-less : tie.Need-loop-less Inv-loop μ-loop
-loop-less c = search needs
 
 loop-again : tie.Need-loop-again Inv-loop μ-loop
 loop-again c = (search needs, zero-later _ _ _ _ (c .before .loop-test .taken) (c .if1 .left) (c .before .before .loop .inv .1))
@@ -44,9 +35,9 @@ some-zero-spec =
     Inv-loop
     μ-loop
     loop-holds
-    array-read-if1
+    (λ c. search needs)
     returns
-    add-i
-    loop-less
+    (λ c. search needs)
+    (λ c. search needs)
     loop-again
     returns-2)

@@ -25,40 +25,10 @@ abbrev μ-loop : tie.MeasureT-loop
 loop-holds : tie.Need-loop-holds Inv-loop μ-loop
 loop-holds c = (search needs, search needs, omega arith, λ f k m n. begin _ _ _ _)
 
-is-fine-requires : tie.Need-is-fine-requires Inv-loop μ-loop
-is-fine-requires c κs = search needs
-
 returns : tie.Need-returns Inv-loop μ-loop
 returns c f k m n =
     let l = c .before .before .before .loop in
     stop _ _ _ _ _ _ (l .inv .3 f k m n) (c .before .before .loop-test .taken) (sym (c .before .is-fine .ensures) ∙ not-true _ (c .if1 .taken))
-
-mul-place : tie.Need-mul-place Inv-loop μ-loop
-mul-place c = search needs
-
-array-copy-out-place : tie.Need-array-copy-out-place Inv-loop μ-loop
-array-copy-out-place c = search needs
-
-latency-of-requires : tie.Need-latency-of-requires Inv-loop μ-loop
-latency-of-requires c κs = search needs
-
-start-row-requires : tie.Need-start-row-requires Inv-loop μ-loop
-start-row-requires c κs = search needs
-
-mul-start : tie.Need-mul-start Inv-loop μ-loop
-mul-start c = search needs
-
-array-set-from-start : tie.Need-array-set-from-start Inv-loop μ-loop
-array-set-from-start c = search needs
-
-array-write-retiming : tie.Need-array-write-retiming Inv-loop μ-loop
-array-write-retiming c = search needs
-
-add-i : tie.Need-add-i Inv-loop μ-loop
-add-i c = search needs
-
-loop-less : tie.Need-loop-less Inv-loop μ-loop
-loop-less c = search needs
 
 loop-again : tie.Need-loop-again Inv-loop μ-loop
 unfolding startStep
@@ -82,16 +52,16 @@ starts-spec =
     Inv-loop
     μ-loop
     loop-holds
-    is-fine-requires
+    (λ c κs. search needs)
     returns
-    mul-place
-    array-copy-out-place
-    latency-of-requires
-    start-row-requires
-    mul-start
-    array-set-from-start
-    array-write-retiming
-    add-i
-    loop-less
+    (λ c. search needs)
+    (λ c. search needs)
+    (λ c κs. search needs)
+    (λ c κs. search needs)
+    (λ c. search needs)
+    (λ c. search needs)
+    (λ c. search needs)
+    (λ c. search needs)
+    (λ c. search needs)
     loop-again
     returns-2)

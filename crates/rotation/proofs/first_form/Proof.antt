@@ -11,9 +11,6 @@ bare : (c : tie.After-with-pair) → c .with-pair .result ≡ bareForm (c .befor
 unfolding bareForm numbersOf
 bare c = c .with-pair .ensures
 
-with-pair-requires : tie.Need-with-pair-requires
-with-pair-requires c κs = search needs
-
 weights-requires : tie.Need-weights-requires
 weights-requires c κs = bare-well-formed _ _ (bare c) (c .before .pre .0)
 
@@ -28,9 +25,6 @@ length-of-requires c κs =
     let pre = p .before .pre in
     (bare-well-formed _ _ (bare p) (pre .0), first-starts-soon _ _ (bare p) _ (c .list-rule .ensures) (pre .0) (pre .1))
 
-with-pair-requires-2 : tie.Need-with-pair-requires-2
-with-pair-requires-2 c κs = search needs
-
 returns : tie.Need-returns
 returns c =
     let l = c .before in
@@ -40,9 +34,9 @@ pub first-form-spec : {M : Type 1} → statement M
 first-form-spec =
     tie.close
     (tie.spec
-    with-pair-requires
+    (λ c κs. search needs)
     weights-requires
     list-rule-requires
     length-of-requires
-    with-pair-requires-2
+    (λ c κs. search needs)
     returns)

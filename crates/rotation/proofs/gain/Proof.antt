@@ -7,9 +7,6 @@ use Rattle.list_rule.proofs.Laws.{adds-one, adds-none}
 use Rattle.rotation.proofs.gain.Statement.{statement}
 use Rattle.rotation.proofs.gain.Tie as tie
 
-add-result : tie.Need-add-result
-add-result c = search needs
-
 returns : tie.Need-returns
 returns c = omega (arith, adds-one _ (le-leb (c .before .args .start) (c .before .args .steps) (omega arith)))
 
@@ -17,4 +14,4 @@ returns-2 : tie.Need-returns-2
 returns-2 c = omega (arith, adds-none _ (lt-leb (c .before .args .start) (c .before .args .steps) (omega arith)))
 
 pub gain-spec : {M : Type 1} → statement M
-gain-spec = tie.close (tie.spec add-result returns returns-2)
+gain-spec = tie.close (tie.spec (λ c. search needs) returns returns-2)

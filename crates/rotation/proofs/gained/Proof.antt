@@ -17,32 +17,11 @@ abbrev μ-loop : tie.MeasureT-loop
 loop-holds : tie.Need-loop-holds Inv-loop μ-loop
 loop-holds c = (omega arith, gained-none _ _ _ (search tests))
 
-cast-i : tie.Need-cast-i Inv-loop μ-loop
-cast-i c = search needs
-
-element-copy-out-gain : tie.Need-element-copy-out-gain Inv-loop μ-loop
-element-copy-out-gain c = search needs
-
-mul-gain : tie.Need-mul-gain Inv-loop μ-loop
-mul-gain c = search needs
-
-element-copy-out-gain-2 : tie.Need-element-copy-out-gain-2 Inv-loop μ-loop
-element-copy-out-gain-2 c = search needs
-
 gain-requires : tie.Need-gain-requires Inv-loop μ-loop
 gain-requires c κs =
     let l = c .before .before in
     let w = l .before .before .pre in
     small-retiming _ (w .0) (w .1) _ (c .before .loop-test .taken)
-
-array-write-retiming : tie.Need-array-write-retiming Inv-loop μ-loop
-array-write-retiming c = search needs
-
-add-v : tie.Need-add-v Inv-loop μ-loop
-add-v c = search needs
-
-loop-less : tie.Need-loop-less Inv-loop μ-loop
-loop-less c = search needs
 
 loop-again : tie.Need-loop-again Inv-loop μ-loop
 loop-again c =
@@ -59,13 +38,13 @@ gained-spec =
     Inv-loop
     μ-loop
     loop-holds
-    cast-i
-    element-copy-out-gain
-    mul-gain
-    element-copy-out-gain-2
+    (λ c. search needs)
+    (λ c. search needs)
+    (λ c. search needs)
+    (λ c. search needs)
     gain-requires
-    array-write-retiming
-    add-v
-    loop-less
+    (λ c. search needs)
+    (λ c. search needs)
+    (λ c. search needs)
     loop-again
     returns)

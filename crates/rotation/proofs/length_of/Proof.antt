@@ -21,15 +21,6 @@ loop-holds c = (search needs, last-none _ _)
 working : (c : tie.In-loop Inv-loop μ-loop) → Working (c .before .before .args .t1) (c .before .before .args .t2) (c .before .loop .v)
 working c = working-of _ _ (c .before .before .pre .0) (c .before .before .pre .1) _ (c .loop-test .taken)
 
-cast-i : tie.Need-cast-i Inv-loop μ-loop
-cast-i c = search needs
-
-mul-class : tie.Need-mul-class Inv-loop μ-loop
-mul-class c = search needs
-
-element-copy-out-class : tie.Need-element-copy-out-class Inv-loop μ-loop
-element-copy-out-class c = search needs
-
 cast-class : tie.Need-cast-class Inv-loop μ-loop
 cast-class c = omega (arith, working c .class-in)
 
@@ -39,12 +30,6 @@ mul-class-2 c = omega (arith, working c .class-in)
 element-copy-out-class-2 : tie.Need-element-copy-out-class-2 Inv-loop μ-loop
 element-copy-out-class-2 c = working c .class-in
 
-mul-end : tie.Need-mul-end Inv-loop μ-loop
-mul-end c = search needs
-
-element-copy-out-end : tie.Need-element-copy-out-end Inv-loop μ-loop
-element-copy-out-end c = search needs
-
 cast-end : tie.Need-cast-end Inv-loop μ-loop
 cast-end c = omega (arith, working (c .before .before) .short)
 
@@ -53,12 +38,6 @@ add-end c = omega (arith, working (c .before .before) .short, working (c .before
 
 sub-end : tie.Need-sub-end Inv-loop μ-loop
 sub-end c = omega (arith, working (c .before .before) .some)
-
-add-v : tie.Need-add-v Inv-loop μ-loop
-add-v c = search needs
-
-loop-less : tie.Need-loop-less Inv-loop μ-loop
-loop-less c = search needs
 
 loop-again : tie.Need-loop-again Inv-loop μ-loop
 loop-again c =
@@ -78,18 +57,18 @@ length-of-spec =
     Inv-loop
     μ-loop
     loop-holds
-    cast-i
-    mul-class
-    element-copy-out-class
+    (λ c. search needs)
+    (λ c. search needs)
+    (λ c. search needs)
     cast-class
     mul-class-2
     element-copy-out-class-2
-    mul-end
-    element-copy-out-end
+    (λ c. search needs)
+    (λ c. search needs)
     cast-end
     add-end
     sub-end
-    add-v
-    loop-less
+    (λ c. search needs)
+    (λ c. search needs)
     loop-again
     returns)

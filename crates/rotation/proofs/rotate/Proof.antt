@@ -11,15 +11,6 @@ use Rattle.rotation.proofs.Rotates.{rotate-writes}
 use Rattle.rotation.proofs.rotate.Statement.{statement}
 use Rattle.rotation.proofs.rotate.Tie as tie
 
-read-requires : tie.Need-read-requires
-read-requires c κs = search needs
-
-is-fine-requires : tie.Need-is-fine-requires
-is-fine-requires c κs = search needs
-
-none-requires : tie.Need-none-requires
-none-requires c κs = search needs
-
 returns : tie.Need-returns
 returns c = entry-unread _ _ _ _ _ _ (c .before .before .before .read .ensures) (sym (c .before .before .is-fine .ensures) ∙ not-true _ (c .before .if1 .taken)) _ (c .none .ensures)
 
@@ -39,9 +30,6 @@ write-plan-requires c κs =
     plan-taken _ _ unturned (a .«record» .now) (a .out .now) _ (r .read .ensures) (λ i. omega (arith, r .before .before .shared-slice-known .given i))
     (sym (i .before .is-fine .ensures) ∙ not-false _ (i .if1 .left)) (rotate-writes _) _ (p .rotate-plan .ensures)
 
-same-length : tie.Need-same-length
-same-length c = search needs
-
 returns-2 : tie.Need-returns-2
 returns-2 c =
     let w = c .before .before in
@@ -56,11 +44,11 @@ pub rotate-spec : {M : Type 1} → statement M
 rotate-spec =
     tie.close
     (tie.spec
-    read-requires
-    is-fine-requires
-    none-requires
+    (λ c κs. search needs)
+    (λ c κs. search needs)
+    (λ c κs. search needs)
     returns
     rotate-plan-requires
     write-plan-requires
-    same-length
+    (λ c. search needs)
     returns-2)

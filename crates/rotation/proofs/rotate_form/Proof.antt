@@ -13,9 +13,6 @@ use Rattle.rotation.proofs.rotate_form.Tie as tie
 long : (c : tie.Start) → length (c .args .form .start) ≡ 64
 long c = search tests
 
-turn-form-requires : tie.Need-turn-form-requires
-turn-form-requires c κs = search needs
-
 returns : tie.Need-returns
 returns c =
     let t = c .before in
@@ -28,9 +25,6 @@ fit-starts-requires c κs =
     let a = t .before .pre in
     rotate-good _ (a .0 .0) (a .0 .1) _ (a .1 .0) (a .1 .1) (long (t .before)) _ (t .turn-form .ensures) (omega (arith, c .if1 .left))
 
-with-pair-requires : tie.Need-with-pair-requires
-with-pair-requires c κs = search needs
-
 returns-2 : tie.Need-returns-2
 returns-2 c =
     let f = c .before .before .before in
@@ -41,4 +35,4 @@ returns-2 c =
 pub rotate-form-spec : {M : Type 1} → statement M
 rotate-form-spec =
     tie.close
-    (tie.spec turn-form-requires returns fit-starts-requires with-pair-requires returns-2)
+    (tie.spec (λ c κs. search needs) returns fit-starts-requires (λ c κs. search needs) returns-2)

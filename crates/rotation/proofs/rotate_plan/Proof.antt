@@ -9,20 +9,11 @@ use Rattle.rotation.proofs.Rotates.{judge-accepted, accepted-alone, rot
 use Rattle.rotation.proofs.rotate_plan.Statement.{statement}
 use Rattle.rotation.proofs.rotate_plan.Tie as tie
 
-times-of-requires : tie.Need-times-of-requires
-times-of-requires c κs = search needs
-
 judge-tables-requires : tie.Need-judge-tables-requires
 judge-tables-requires c κs = (c .before .before .before .before .before .args .t1, lent-form (c .before .before .before .before .before .args .t1) _ (c .before .before .before .before .before .pre) (c .before .before .before .before .times-of .ensures))
 
-is-fine-requires : tie.Need-is-fine-requires
-is-fine-requires c κs = search needs
-
 returns : tie.Need-returns
 returns c = rotate-unjudged _ _ (c .before .before .before .judge-tables .ensures _ (lent-form (c .before .before .before .before .before .before .before .before .before .args .t1) _ (c .before .before .before .before .before .before .before .before .before .pre) (c .before .before .before .before .before .before .before .before .times-of .ensures))) _ (sym (c .before .is-fine .ensures) ∙ not-true _ (c .if1 .taken))
-
-turns-by-requires : tie.Need-turns-by-requires
-turns-by-requires c κs = search needs
 
 returns-2 : tie.Need-returns-2
 returns-2 c =
@@ -58,11 +49,11 @@ pub rotate-plan-spec : {M : Type 1} → statement M
 rotate-plan-spec =
     tie.close
     (tie.spec
-    times-of-requires
+    (λ c κs. search needs)
     judge-tables-requires
-    is-fine-requires
+    (λ c κs. search needs)
     returns
-    turns-by-requires
+    (λ c κs. search needs)
     returns-2
     rotate-form-requires
     returns-3

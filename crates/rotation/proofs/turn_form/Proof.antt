@@ -11,15 +11,6 @@ use Rattle.rotation.proofs.Rotations.{turn-good, turn-ends, turn-soon, 
 use Rattle.rotation.proofs.turn_form.Statement.{statement}
 use Rattle.rotation.proofs.turn_form.Tie as tie
 
-dropped-requires : tie.Need-dropped-requires
-dropped-requires c κs = search needs
-
-gained-requires : tie.Need-gained-requires
-gained-requires c κs = search needs
-
-with-pair-requires : tie.Need-with-pair-requires
-with-pair-requires c κs = search needs
-
 -- the table of starts has its places
 long : (c : tie.Start) → length (c .args .form .start) ≡ 64
 long c = search tests
@@ -49,9 +40,6 @@ length-of-requires c κs =
     let a = p .before .before .before .before .pre in
     (good p, turn-soon _ (a .0 .0) (a .0 .1) _ (a .1 .0) (a .1 .1) (long (p .before .before .before .before)) _ _ (p .before .before .dropped .ensures) (p .before .gained .ensures) _ (p .with-pair .ensures) _ (c .list-rule .ensures))
 
-with-pair-requires-2 : tie.Need-with-pair-requires-2
-with-pair-requires-2 c κs = search needs
-
 returns : tie.Need-returns
 unfolding startsOf
 returns c =
@@ -65,11 +53,11 @@ pub turn-form-spec : {M : Type 1} → statement M
 turn-form-spec =
     tie.close
     (tie.spec
-    dropped-requires
-    gained-requires
-    with-pair-requires
+    (λ c κs. search needs)
+    (λ c κs. search needs)
+    (λ c κs. search needs)
     weights-requires
     list-rule-requires
     length-of-requires
-    with-pair-requires-2
+    (λ c κs. search needs)
     returns)

@@ -5,21 +5,6 @@ use Rattle.rsk_c.proofs.ListLaws.{list-answered}
 use Rattle.rsk_c.proofs.rsk_list.Statement.{statement}
 use Rattle.rsk_c.proofs.rsk_list.Tie as tie
 
-list-requires : tie.Need-list-requires
-list-requires c κs = search needs
-
-numbers-of-requires : tie.Need-numbers-of-requires
-numbers-of-requires c κs = search needs
-
-none-requires : tie.Need-none-requires
-none-requires c κs = search needs
-
-fill-requires : tie.Need-fill-requires
-fill-requires c κs = search needs
-
-same-length : tie.Need-same-length
-same-length c = search needs
-
 returns : tie.Need-returns
 returns c =
     let l = c .before .before .before .before .before .before in
@@ -29,4 +14,4 @@ returns c =
 pub rsk-list-spec : {M : Type 1} → statement M
 rsk-list-spec =
     tie.close
-    (tie.spec list-requires numbers-of-requires none-requires fill-requires same-length returns)
+    (tie.spec (λ c κs. search needs) (λ c κs. search needs) (λ c κs. search needs) (λ c κs. search needs) (λ c. search needs) returns)

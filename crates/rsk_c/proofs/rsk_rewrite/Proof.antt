@@ -8,21 +8,6 @@ use Rattle.rsk_c.proofs.Laws.{refused, passed, answered, taken}
 use Rattle.rsk_c.proofs.rsk_rewrite.Statement.{statement}
 use Rattle.rsk_c.proofs.rsk_rewrite.Tie as tie
 
-read-requires : tie.Need-read-requires
-read-requires c κs = search needs
-
-is-fine-requires : tie.Need-is-fine-requires
-is-fine-requires c κs = search needs
-
-numbers-of-requires : tie.Need-numbers-of-requires
-numbers-of-requires c κs = search needs
-
-none-requires : tie.Need-none-requires
-none-requires c κs = search needs
-
-fill-requires : tie.Need-fill-requires
-fill-requires c κs = search needs
-
 returns : tie.Need-returns
 returns c =
     let w = refused _ _ _ (c .before .before .before .before .before .before .read .ensures) (sym (c .before .before .before .before .before .is-fine .ensures) ∙ not-true _ (c .before .before .before .before .if1 .taken)) in
@@ -35,18 +20,6 @@ write-taken-requires c κs =
     taken _ (r .before .before .before .args .out .now) _ (r .read .ensures) (λ i. omega (arith, r .before .before .shared-slice-known .given i))
     (sym (c .before .before .is-fine .ensures) ∙ not-false _ (c .before .if1 .left))
 
-numbers-of-requires-2 : tie.Need-numbers-of-requires-2
-numbers-of-requires-2 c κs = search needs
-
-none-requires-2 : tie.Need-none-requires-2
-none-requires-2 c κs = search needs
-
-fill-requires-2 : tie.Need-fill-requires-2
-fill-requires-2 c κs = search needs
-
-same-length : tie.Need-same-length
-same-length c = search needs
-
 returns-2 : tie.Need-returns-2
 returns-2 c =
     let o = c .before .before .before .before .before .before in
@@ -58,15 +31,15 @@ pub rsk-rewrite-spec : {M : Type 1} → statement M
 rsk-rewrite-spec =
     tie.close
     (tie.spec
-    read-requires
-    is-fine-requires
-    numbers-of-requires
-    none-requires
-    fill-requires
+    (λ c κs. search needs)
+    (λ c κs. search needs)
+    (λ c κs. search needs)
+    (λ c κs. search needs)
+    (λ c κs. search needs)
     returns
     write-taken-requires
-    numbers-of-requires-2
-    none-requires-2
-    fill-requires-2
-    same-length
+    (λ c κs. search needs)
+    (λ c κs. search needs)
+    (λ c κs. search needs)
+    (λ c. search needs)
     returns-2)

@@ -8,24 +8,6 @@ use Rattle.rsk_c.proofs.Filled.{filled}
 use Rattle.rsk_c.proofs.rsk_run.Statement.{statement}
 use Rattle.rsk_c.proofs.rsk_run.Tie as tie
 
-run-requires : tie.Need-run-requires
-run-requires c κs = search needs
-
-numbers-of-requires : tie.Need-numbers-of-requires
-numbers-of-requires c κs = search needs
-
-none-requires : tie.Need-none-requires
-none-requires c κs = search needs
-
-fill-requires : tie.Need-fill-requires
-fill-requires c κs = search needs
-
-same-length : tie.Need-same-length
-same-length c = search needs
-
-same-length-2 : tie.Need-same-length-2
-same-length-2 c = search needs
-
 returns : tie.Need-returns
 returns c =
     filled _ _ _ _ _ _ _ _ _ (c .before .before .before .before .before .before .before .before .run .ensures) (c .before .before .numbers-of .ensures) (c .fill .ensures .0)
@@ -35,10 +17,10 @@ pub rsk-run-spec : {M : Type 1} → statement M
 rsk-run-spec =
     tie.close
     (tie.spec
-    run-requires
-    numbers-of-requires
-    none-requires
-    fill-requires
-    same-length
-    same-length-2
+    (λ c κs. search needs)
+    (λ c κs. search needs)
+    (λ c κs. search needs)
+    (λ c κs. search needs)
+    (λ c. search needs)
+    (λ c. search needs)
     returns)

@@ -26,15 +26,6 @@ loop-holds : tie.Need-loop-holds Inv-loop μ-loop
 unfolding brokenEdge
 loop-holds c = (search needs, λ g p told timed. rw (sub-self, told .all-edges))
 
-sub-e : tie.Need-sub-e Inv-loop μ-loop
-sub-e c = search needs
-
-cast-i : tie.Need-cast-i Inv-loop μ-loop
-cast-i c = search needs
-
-element-copy-out-tail : tie.Need-element-copy-out-tail Inv-loop μ-loop
-element-copy-out-tail c = search needs
-
 -- an edge's nodes are places of the timetable
 tail-in : (c : tie.In-loop Inv-loop μ-loop) → getD (c .before .before .args .from .now) (c .before .before .args .edges - c .before .loop .left) 0 < 64
 tail-in c =
@@ -49,35 +40,17 @@ head-in c =
 cast-tail : tie.Need-cast-tail Inv-loop μ-loop
 cast-tail c = omega (arith, tail-in (c .before))
 
-element-copy-out-head : tie.Need-element-copy-out-head Inv-loop μ-loop
-element-copy-out-head c = search needs
-
 cast-head : tie.Need-cast-head Inv-loop μ-loop
 cast-head c = omega (arith, head-in (c .before .before))
 
-element-copy-out-wide : tie.Need-element-copy-out-wide Inv-loop μ-loop
-element-copy-out-wide c = search needs
-
-wide-requires : tie.Need-wide-requires Inv-loop μ-loop
-wide-requires c κs = search needs
-
 element-copy-out-wide-2 : tie.Need-element-copy-out-wide-2 Inv-loop μ-loop
 element-copy-out-wide-2 c = omega (arith, tail-in (c .before .before .before .before), head-in (c .before .before .before .before))
-
-wide-requires-2 : tie.Need-wide-requires-2 Inv-loop μ-loop
-wide-requires-2 c κs = search needs
-
-add-between : tie.Need-add-between Inv-loop μ-loop
-add-between c = search needs
 
 mul-later : tie.Need-mul-later Inv-loop μ-loop
 mul-later c = omega (arith, head-in (c .before .before .before .before .before .before))
 
 element-copy-out-later : tie.Need-element-copy-out-later Inv-loop μ-loop
 element-copy-out-later c = omega (arith, head-in (c .before .before .before .before .before .before))
-
-later-requires : tie.Need-later-requires Inv-loop μ-loop
-later-requires c κs = search needs
 
 mul-later-2 : tie.Need-mul-later-2 Inv-loop μ-loop
 mul-later-2 c = omega (arith, tail-in (c .before .before .before .before .before .before .before .before))
@@ -88,23 +61,8 @@ element-copy-out-later-2 c = omega (arith, tail-in (c .before .before .before .b
 element-copy-out-wide-3 : tie.Need-element-copy-out-wide-3 Inv-loop μ-loop
 element-copy-out-wide-3 c = omega (arith, tail-in (c .before .before .before .before .before .before .before .before .before), head-in (c .before .before .before .before .before .before .before .before .before))
 
-wide-requires-3 : tie.Need-wide-requires-3 Inv-loop μ-loop
-wide-requires-3 c κs = search needs
-
-later-requires-2 : tie.Need-later-requires-2 Inv-loop μ-loop
-later-requires-2 c κs = search needs
-
 element-copy-out-wide-4 : tie.Need-element-copy-out-wide-4 Inv-loop μ-loop
 element-copy-out-wide-4 c = omega (arith, tail-in (c .before .before .before .before .before .before .before .before .before .before .before .before))
-
-wide-requires-4 : tie.Need-wide-requires-4 Inv-loop μ-loop
-wide-requires-4 c κs = search needs
-
-cast-if1 : tie.Need-cast-if1 Inv-loop μ-loop
-cast-if1 c = search needs
-
-add-if1 : tie.Need-add-if1 Inv-loop μ-loop
-add-if1 c = search needs
 
 -- what the code compares of an edge
 sides : (c : tie.After-wide4 Inv-loop μ-loop) (g : Loop) (p : Pair)
@@ -116,12 +74,6 @@ sides c g p told timed =
 
 returns : tie.Need-returns Inv-loop μ-loop
 returns c = λ g p told timed. left-here _ _ _ _ (c .before .before .before .before .before .before .before .before .before .before .before .before .before .before .before .loop-test .taken) (c .before .before .before .before .before .before .before .before .before .before .before .before .before .before .before .before .loop .inv .0) (c .before .before .before .before .before .before .before .before .before .before .before .before .before .before .before .before .loop .inv .1 g p told timed) (edge-breaks _ _ _ _ _ _ (sides (c .before) g p told timed) (omega (arith, c .if1 .taken)))
-
-sub-left : tie.Need-sub-left Inv-loop μ-loop
-sub-left c = search needs
-
-loop-less : tie.Need-loop-less Inv-loop μ-loop
-loop-less c = search needs
 
 loop-again : tie.Need-loop-again Inv-loop μ-loop
 loop-again c = (search needs, λ g p told timed. left-next _ _ _ _ (c .before .before .before .before .before .before .before .before .before .before .before .before .before .before .before .loop-test .taken) (c .before .before .before .before .before .before .before .before .before .before .before .before .before .before .before .before .loop .inv .0) (c .before .before .before .before .before .before .before .before .before .before .before .before .before .before .before .before .loop .inv .1 g p told timed) (edge-keeps _ _ _ _ _ _ (sides (c .before) g p told timed) (omega (arith, c .if1 .left))))
@@ -136,31 +88,31 @@ broken-edge-spec =
     Inv-loop
     μ-loop
     loop-holds
-    sub-e
-    cast-i
-    element-copy-out-tail
+    (λ c. search needs)
+    (λ c. search needs)
+    (λ c. search needs)
     cast-tail
-    element-copy-out-head
+    (λ c. search needs)
     cast-head
-    element-copy-out-wide
-    wide-requires
+    (λ c. search needs)
+    (λ c κs. search needs)
     element-copy-out-wide-2
-    wide-requires-2
-    add-between
+    (λ c κs. search needs)
+    (λ c. search needs)
     mul-later
     element-copy-out-later
-    later-requires
+    (λ c κs. search needs)
     mul-later-2
     element-copy-out-later-2
     element-copy-out-wide-3
-    wide-requires-3
-    later-requires-2
+    (λ c κs. search needs)
+    (λ c κs. search needs)
     element-copy-out-wide-4
-    wide-requires-4
-    cast-if1
-    add-if1
+    (λ c κs. search needs)
+    (λ c. search needs)
+    (λ c. search needs)
     returns
-    sub-left
-    loop-less
+    (λ c. search needs)
+    (λ c. search needs)
     loop-again
     returns-2)

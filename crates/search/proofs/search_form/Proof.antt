@@ -13,9 +13,6 @@ Inv-loop count size now₀ best₀ steps₀ rotations₀ now best steps rotation
 abbrev μ-loop : tie.MeasureT-loop
 μ-loop count size now₀ best₀ steps₀ rotations₀ now best steps rotations = count + 1 - rotations
 
-first-form-requires : tie.Need-first-form-requires Inv-loop μ-loop
-first-form-requires c κs = search needs
-
 loop-holds : tie.Need-loop-holds Inv-loop μ-loop
 loop-holds c =
     let s = c .before in
@@ -29,12 +26,6 @@ rotate-form-requires c κs =
     let h = c .before in
     let l = h .before .before in
     turn-good _ (l .loop .inv .good) _ _ (omega (arith, l .loop .inv .small)) (h .halve .ensures) (λ e. omega (arith, e, c .if1 .left))
-
-shorter-of-requires : tie.Need-shorter-of-requires Inv-loop μ-loop
-shorter-of-requires c κs = search needs
-
-add-rotations : tie.Need-add-rotations Inv-loop μ-loop
-add-rotations c = search needs
 
 loop-less : tie.Need-loop-less Inv-loop μ-loop
 loop-less c = omega (arith, c .before .before .before .before .before .before .loop-test .taken)
@@ -73,12 +64,12 @@ search-form-spec =
     (tie.spec
     Inv-loop
     μ-loop
-    first-form-requires
+    (λ c κs. search needs)
     loop-holds
     halve-requires
     rotate-form-requires
-    shorter-of-requires
-    add-rotations
+    (λ c κs. search needs)
+    (λ c. search needs)
     loop-less
     loop-again
     returns

@@ -6,17 +6,8 @@ use borrow.Author.Needs.{needs}
 use Rattle.solve.proofs.solve.Statement.{statement}
 use Rattle.solve.proofs.solve.Tie as tie
 
-settle-requires : tie.Need-settle-requires
-settle-requires c κs = search needs
-
-none-requires : tie.Need-none-requires
-none-requires c κs = search needs
-
 returns : tie.Need-returns
 returns c = when-settled _ _ (c .before .before .before .settle .ensures) _ (c .none .ensures) (c .before .if1 .taken)
-
-shortest-cycle-requires : tie.Need-shortest-cycle-requires
-shortest-cycle-requires c κs = search needs
 
 returns-2 : tie.Need-returns-2
 unfolding systemOf
@@ -28,4 +19,4 @@ returns-2 c =
 
 pub solve-spec : {M : Type 1} → statement M
 solve-spec =
-    tie.close (tie.spec settle-requires none-requires returns shortest-cycle-requires returns-2)
+    tie.close (tie.spec (λ c κs. search needs) (λ c κs. search needs) returns (λ c κs. search needs) returns-2)

@@ -41,29 +41,11 @@ ends c =
 loop-holds : tie.Need-loop-holds Inv-loop μ-loop
 loop-holds c = (sofar-none _ _, search needs)
 
-cast-i : tie.Need-cast-i Inv-loop μ-loop
-cast-i c = search needs
-
-element-copy-out-tail : tie.Need-element-copy-out-tail Inv-loop μ-loop
-element-copy-out-tail c = search needs
-
 cast-tail : tie.Need-cast-tail Inv-loop μ-loop
 cast-tail c = omega (arith, ends (c .before))
 
-element-copy-out-head : tie.Need-element-copy-out-head Inv-loop μ-loop
-element-copy-out-head c = search needs
-
 cast-head : tie.Need-cast-head Inv-loop μ-loop
 cast-head c = omega (arith, ends (c .before .before))
-
-mul-wide : tie.Need-mul-wide Inv-loop μ-loop
-mul-wide c = search needs
-
-element-copy-out-wide : tie.Need-element-copy-out-wide Inv-loop μ-loop
-element-copy-out-wide c = search needs
-
-wide-requires : tie.Need-wide-requires Inv-loop μ-loop
-wide-requires c κs = search needs
 
 mul-have : tie.Need-mul-have Inv-loop μ-loop
 mul-have c = omega (arith, ends (c .before .before .before .before))
@@ -80,32 +62,14 @@ mul-want c = omega (arith, ends (c .before .before .before .before .before))
 element-copy-out-want : tie.Need-element-copy-out-want Inv-loop μ-loop
 element-copy-out-want c = omega (arith, ends (c .before .before .before .before .before))
 
-mul-wide-2 : tie.Need-mul-wide-2 Inv-loop μ-loop
-mul-wide-2 c = search needs
-
-element-copy-out-wide-2 : tie.Need-element-copy-out-wide-2 Inv-loop μ-loop
-element-copy-out-wide-2 c = search needs
-
-wide-requires-2 : tie.Need-wide-requires-2 Inv-loop μ-loop
-wide-requires-2 c κs = search needs
-
 add-want : tie.Need-add-want Inv-loop μ-loop
 add-want c = omega (arith, ends (c .before .before .before .before .before .before .before .before))
-
-sub-values : tie.Need-sub-values Inv-loop μ-loop
-sub-values c = search needs
 
 mul-values : tie.Need-mul-values Inv-loop μ-loop
 mul-values c = omega (arith, ends (c .before .before .before .before .before .before .before .before .before))
 
 element-write-values : tie.Need-element-write-values Inv-loop μ-loop
 element-write-values c = omega (arith, ends (c .before .before .before .before .before .before .before .before .before))
-
-add-e : tie.Need-add-e Inv-loop μ-loop
-add-e c = search needs
-
-loop-less : tie.Need-loop-less Inv-loop μ-loop
-loop-less c = search needs
 
 loop-again : tie.Need-loop-again Inv-loop μ-loop
 unfolding systemOf
@@ -134,27 +98,27 @@ one-round-spec =
     Inv-loop
     μ-loop
     loop-holds
-    cast-i
-    element-copy-out-tail
+    (λ c. search needs)
+    (λ c. search needs)
     cast-tail
-    element-copy-out-head
+    (λ c. search needs)
     cast-head
-    mul-wide
-    element-copy-out-wide
-    wide-requires
+    (λ c. search needs)
+    (λ c. search needs)
+    (λ c κs. search needs)
     mul-have
     element-copy-out-have
     add-have
     mul-want
     element-copy-out-want
-    mul-wide-2
-    element-copy-out-wide-2
-    wide-requires-2
+    (λ c. search needs)
+    (λ c. search needs)
+    (λ c κs. search needs)
     add-want
-    sub-values
+    (λ c. search needs)
     mul-values
     element-write-values
-    add-e
-    loop-less
+    (λ c. search needs)
+    (λ c. search needs)
     loop-again
     returns)

@@ -40,12 +40,6 @@ returns c =
     let t = c .before .before .before in
     settle-done (theSystem t) _ _ _ _ _ (r .ensures .is-raised) (r .ensures .is-round) (omega arith) (t .before .loop .inv .1) (not-true _ (c .if1 .taken))
 
-sub-left : tie.Need-sub-left Inv-loop μ-loop
-sub-left c = search needs
-
-loop-less : tie.Need-loop-less Inv-loop μ-loop
-loop-less c = search needs
-
 loop-again : tie.Need-loop-again Inv-loop μ-loop
 loop-again c =
     let r = c .before .one-round in
@@ -67,7 +61,7 @@ settle-spec =
     loop-holds
     one-round-requires
     returns
-    sub-left
-    loop-less
+    (λ c. search needs)
+    (λ c. search needs)
     loop-again
     returns-2)

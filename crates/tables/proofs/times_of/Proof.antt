@@ -17,17 +17,8 @@ Inv-loop form class node begins retiming kind₀ latency₀ start₀ nodes v₀ 
 abbrev μ-loop : tie.MeasureT-loop
 μ-loop form class node begins retiming kind₀ latency₀ start₀ nodes v₀ kind latency start v = nodes - v
 
-cast-nodes : tie.Need-cast-nodes Inv-loop μ-loop
-cast-nodes c = search needs
-
 loop-holds : tie.Need-loop-holds Inv-loop μ-loop
 loop-holds c = (search needs, search needs, fill-none _ _, fill-none _ _, fill-none _ _)
-
-mul-number : tie.Need-mul-number Inv-loop μ-loop
-mul-number c = search needs
-
-element-copy-out-number : tie.Need-element-copy-out-number Inv-loop μ-loop
-element-copy-out-number c = search needs
 
 class-below : (c : tie.In-loop Inv-loop μ-loop) → nodeOf (c .before .before .before .before .before .before .before .args .form) (c .before .loop .v) .class < 4
 class-below c =
@@ -42,30 +33,6 @@ mul-row c = omega (arith, class-below c)
 
 array-copy-out-row : tie.Need-array-copy-out-row Inv-loop μ-loop
 array-copy-out-row c = omega (arith, class-below c)
-
-array-write-kind : tie.Need-array-write-kind Inv-loop μ-loop
-array-write-kind c = search needs
-
-array-write-latency : tie.Need-array-write-latency Inv-loop μ-loop
-array-write-latency c = search needs
-
-mul-start : tie.Need-mul-start Inv-loop μ-loop
-mul-start c = search needs
-
-element-copy-out-start : tie.Need-element-copy-out-start Inv-loop μ-loop
-element-copy-out-start c = search needs
-
-mul-start-2 : tie.Need-mul-start-2 Inv-loop μ-loop
-mul-start-2 c = search needs
-
-array-write-start : tie.Need-array-write-start Inv-loop μ-loop
-array-write-start c = search needs
-
-add-v : tie.Need-add-v Inv-loop μ-loop
-add-v c = search needs
-
-loop-less : tie.Need-loop-less Inv-loop μ-loop
-loop-less c = search needs
 
 loop-again : tie.Need-loop-again Inv-loop μ-loop
 loop-again c =
@@ -83,20 +50,20 @@ times-of-spec =
     (tie.spec
     Inv-loop
     μ-loop
-    cast-nodes
+    (λ c. search needs)
     loop-holds
-    mul-number
-    element-copy-out-number
+    (λ c. search needs)
+    (λ c. search needs)
     cast-row
     mul-row
     array-copy-out-row
-    array-write-kind
-    array-write-latency
-    mul-start
-    element-copy-out-start
-    mul-start-2
-    array-write-start
-    add-v
-    loop-less
+    (λ c. search needs)
+    (λ c. search needs)
+    (λ c. search needs)
+    (λ c. search needs)
+    (λ c. search needs)
+    (λ c. search needs)
+    (λ c. search needs)
+    (λ c. search needs)
     loop-again
     returns)

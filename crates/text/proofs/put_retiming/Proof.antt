@@ -9,18 +9,9 @@ use Rattle.text.proofs.put_retiming.Tie as tie
 returns : tie.Need-returns
 returns c = (search needs, retiming-none _ _ _ (omega (arith, c .if1 .taken)))
 
-put-byte-requires : tie.Need-put-byte-requires
-put-byte-requires c κs = search needs
-
-put-number-requires : tie.Need-put-number-requires
-put-number-requires c κs = search needs
-
-same-length : tie.Need-same-length
-same-length c = search needs
-
 returns-2 : tie.Need-returns-2
 returns-2 c = (search needs, retiming-some _ _ _ _ _ _ _ _ (λ e. omega (arith, e, c .before .before .before .before .before .before .before .before .if1 .left)) (c .before .before .before .before .before .before .put-byte .ensures .1) (c .before .before .put-number .ensures .1) (omega arith))
 
 pub put-retiming-spec : {M : Type 1} → statement M
 put-retiming-spec =
-    tie.close (tie.spec returns put-byte-requires put-number-requires same-length returns-2)
+    tie.close (tie.spec returns (λ c κs. search needs) (λ c κs. search needs) (λ c. search needs) returns-2)

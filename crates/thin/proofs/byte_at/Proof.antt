@@ -4,11 +4,5 @@ use borrow.Author.Needs.{needs}
 use Rattle.thin.proofs.byte_at.Statement.{statement}
 use Rattle.thin.proofs.byte_at.Tie as tie
 
-shared-slice-read-result : tie.Need-shared-slice-read-result
-shared-slice-read-result c = search needs
-
-returns : tie.Need-returns
-returns c = search needs
-
 pub byte-at-spec : {M : Type 1} → statement M
-byte-at-spec = tie.close (tie.spec shared-slice-read-result returns)
+byte-at-spec = tie.close (tie.spec (λ c. search needs) (λ c. search needs))

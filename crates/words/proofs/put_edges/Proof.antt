@@ -17,33 +17,9 @@ Inv-loop out₀ at answer count next₀ i₀ out next i = (i ≤ 64) × (next �
 abbrev μ-loop : tie.MeasureT-loop
 μ-loop out₀ at answer count next₀ i₀ out next i = count - i
 
-element-copy-out-count-of : tie.Need-element-copy-out-count-of Inv-loop μ-loop
-element-copy-out-count-of c = search needs
-
-count-of-requires : tie.Need-count-of-requires Inv-loop μ-loop
-count-of-requires c κs = search needs
-
 loop-holds : tie.Need-loop-holds Inv-loop μ-loop
 unfolding rows
 loop-holds c = (search needs, omega arith, nothing _ _, search needs)
-
-add-put-edge : tie.Need-add-put-edge Inv-loop μ-loop
-add-put-edge c = search needs
-
-mul-put-edge : tie.Need-mul-put-edge Inv-loop μ-loop
-mul-put-edge c = search needs
-
-element-copy-out-put-edge : tie.Need-element-copy-out-put-edge Inv-loop μ-loop
-element-copy-out-put-edge c = search needs
-
-put-edge-requires : tie.Need-put-edge-requires Inv-loop μ-loop
-put-edge-requires c κs = search needs
-
-add-i : tie.Need-add-i Inv-loop μ-loop
-add-i c = search needs
-
-loop-less : tie.Need-loop-less Inv-loop μ-loop
-loop-less c = search needs
 
 loop-again : tie.Need-loop-again Inv-loop μ-loop
 unfolding edgeText
@@ -61,15 +37,15 @@ put-edges-spec =
     (tie.spec
     Inv-loop
     μ-loop
-    element-copy-out-count-of
-    count-of-requires
+    (λ c. search needs)
+    (λ c κs. search needs)
     loop-holds
-    add-put-edge
-    mul-put-edge
-    element-copy-out-put-edge
-    put-edge-requires
-    add-i
-    loop-less
+    (λ c. search needs)
+    (λ c. search needs)
+    (λ c. search needs)
+    (λ c κs. search needs)
+    (λ c. search needs)
+    (λ c. search needs)
     loop-again
     same-length
     returns)

@@ -6,24 +6,6 @@ use Rattle.words.specs.Numbers.{highText}
 use Rattle.words.proofs.put_high.Statement.{statement}
 use Rattle.words.proofs.put_high.Tie as tie
 
-put-place-requires : tie.Need-put-place-requires
-put-place-requires c κs = search needs
-
-put-place-requires-2 : tie.Need-put-place-requires-2
-put-place-requires-2 c κs = search needs
-
-put-place-requires-3 : tie.Need-put-place-requires-3
-put-place-requires-3 c κs = search needs
-
-put-place-requires-4 : tie.Need-put-place-requires-4
-put-place-requires-4 c κs = search needs
-
-put-place-requires-5 : tie.Need-put-place-requires-5
-put-place-requires-5 c κs = search needs
-
-same-length : tie.Need-same-length
-same-length c = search needs
-
 returns : tie.Need-returns
 unfolding highText
 returns c = (search needs, both _ _ _ _ _ _ _ _ (c .before .before .before .before .before .before .before .before .before .before .before .before .before .before .before .before .before .before .put-place .ensures .1) (both _ _ _ _ _ _ _ _ (c .before .before .before .before .before .before .before .before .before .before .before .before .before .before .put-place2 .ensures .1) (both _ _ _ _ _ _ _ _ (c .before .before .before .before .before .before .before .before .before .before .put-place3 .ensures .1) (both _ _ _ _ _ _ _ _ (c .before .before .before .before .before .before .put-place4 .ensures .1) (c .before .before .put-place5 .ensures .1)))))
@@ -32,10 +14,10 @@ pub put-high-spec : {M : Type 1} → statement M
 put-high-spec =
     tie.close
     (tie.spec
-    put-place-requires
-    put-place-requires-2
-    put-place-requires-3
-    put-place-requires-4
-    put-place-requires-5
-    same-length
+    (λ c κs. search needs)
+    (λ c κs. search needs)
+    (λ c κs. search needs)
+    (λ c κs. search needs)
+    (λ c κs. search needs)
+    (λ c. search needs)
     returns)

@@ -9,87 +9,21 @@ use Rattle.words.proofs.Laws.{named-rule, unnamed, not-lowest}
 use Rattle.words.proofs.put_limit.Statement.{statement}
 use Rattle.words.proofs.put_limit.Tie as tie
 
-element-copy-out-a : tie.Need-element-copy-out-a
-element-copy-out-a c = search needs
-
-element-copy-out-b : tie.Need-element-copy-out-b
-element-copy-out-b c = search needs
-
-element-copy-out-c : tie.Need-element-copy-out-c
-element-copy-out-c c = search needs
-
-slice-aggregate-put-amid : tie.Need-slice-aggregate-put-amid
-slice-aggregate-put-amid c = search needs
-
-slice-aggregate-put-amid-2 : tie.Need-slice-aggregate-put-amid-2
-slice-aggregate-put-amid-2 c = search needs
-
-put-amid-requires : tie.Need-put-amid-requires
-put-amid-requires c κs = search needs
-
-slice-aggregate-put-word : tie.Need-slice-aggregate-put-word
-slice-aggregate-put-word c = search needs
-
-put-word-requires : tie.Need-put-word-requires
-put-word-requires c κs = search needs
-
-put-room-requires : tie.Need-put-room-requires
-put-room-requires c κs = search needs
-
-slice-aggregate-put-three : tie.Need-slice-aggregate-put-three
-slice-aggregate-put-three c = search needs
-
-slice-aggregate-put-three-2 : tie.Need-slice-aggregate-put-three-2
-slice-aggregate-put-three-2 c = search needs
-
-slice-aggregate-put-three-3 : tie.Need-slice-aggregate-put-three-3
-slice-aggregate-put-three-3 c = search needs
-
-put-three-requires : tie.Need-put-three-requires
-put-three-requires c κs = search needs
-
-slice-aggregate-put-three-4 : tie.Need-slice-aggregate-put-three-4
-slice-aggregate-put-three-4 c = search needs
-
-slice-aggregate-put-three-5 : tie.Need-slice-aggregate-put-three-5
-slice-aggregate-put-three-5 c = search needs
-
-slice-aggregate-put-three-6 : tie.Need-slice-aggregate-put-three-6
-slice-aggregate-put-three-6 c = search needs
-
-put-three-requires-2 : tie.Need-put-three-requires-2
-put-three-requires-2 c κs = search needs
-
-same-length : tie.Need-same-length
-same-length c = search needs
-
 returns : tie.Need-returns
 unfolding ruleTexts sizeWord stepsWord
 returns c = (omega arith, named-rule _ _ (ruleTexts (c .before .before .before .before .before .before .before .before .before .before .before .args .answer .now) (c .before .before .before .before .before .before .before .before .before .before .before .args .from) (c .before .before .before .before .before .before .before .before .before .before .before .args .to)) _ _ _ 16 (c .before .before .before .before .before .before .match .keys1) (c .before .before .put-amid .ensures .1))
-
-same-length-2 : tie.Need-same-length-2
-same-length-2 c = search needs
 
 returns-2 : tie.Need-returns-2
 unfolding ruleTexts longWord
 returns-2 c = (omega arith, named-rule _ _ (ruleTexts (c .before .before .before .before .before .before .before .before .before .before .args .answer .now) (c .before .before .before .before .before .before .before .before .before .before .args .from) (c .before .before .before .before .before .before .before .before .before .before .args .to)) _ _ _ 17 (c .before .before .before .before .before .match .keys2) (c .before .before .put-word .ensures))
 
-same-length-3 : tie.Need-same-length-3
-same-length-3 c = search needs
-
 returns-3 : tie.Need-returns-3
 unfolding ruleTexts
 returns-3 c = (omega arith, named-rule _ _ (ruleTexts (c .before .before .before .before .before .before .before .before .before .args .answer .now) (c .before .before .before .before .before .before .before .before .before .args .from) (c .before .before .before .before .before .before .before .before .before .args .to)) _ _ _ 18 (c .before .before .before .before .match .keys3) (c .before .before .put-room .ensures .1))
 
-same-length-4 : tie.Need-same-length-4
-same-length-4 c = search needs
-
 returns-4 : tie.Need-returns-4
 unfolding ruleTexts earlyWord atNodeWord atEdgeWord
 returns-4 c = (omega arith, named-rule _ _ (ruleTexts (c .before .before .before .before .before .before .before .before .before .before .before .before .args .answer .now) (c .before .before .before .before .before .before .before .before .before .before .before .before .args .from) (c .before .before .before .before .before .before .before .before .before .before .before .before .args .to)) _ _ _ 19 (c .before .before .before .before .before .before .before .match .keys4) (c .before .before .put-three .ensures .1))
-
-same-length-5 : tie.Need-same-length-5
-same-length-5 c = search needs
 
 returns-5 : tie.Need-returns-5
 unfolding ruleTexts busyWord atNodeWord classWord
@@ -103,31 +37,31 @@ pub put-limit-spec : {M : Type 1} → statement M
 put-limit-spec =
     tie.close
     (tie.spec
-    element-copy-out-a
-    element-copy-out-b
-    element-copy-out-c
-    slice-aggregate-put-amid
-    slice-aggregate-put-amid-2
-    put-amid-requires
-    slice-aggregate-put-word
-    put-word-requires
-    put-room-requires
-    slice-aggregate-put-three
-    slice-aggregate-put-three-2
-    slice-aggregate-put-three-3
-    put-three-requires
-    slice-aggregate-put-three-4
-    slice-aggregate-put-three-5
-    slice-aggregate-put-three-6
-    put-three-requires-2
-    same-length
+    (λ c. search needs)
+    (λ c. search needs)
+    (λ c. search needs)
+    (λ c. search needs)
+    (λ c. search needs)
+    (λ c κs. search needs)
+    (λ c. search needs)
+    (λ c κs. search needs)
+    (λ c κs. search needs)
+    (λ c. search needs)
+    (λ c. search needs)
+    (λ c. search needs)
+    (λ c κs. search needs)
+    (λ c. search needs)
+    (λ c. search needs)
+    (λ c. search needs)
+    (λ c κs. search needs)
+    (λ c. search needs)
     returns
-    same-length-2
+    (λ c. search needs)
     returns-2
-    same-length-3
+    (λ c. search needs)
     returns-3
-    same-length-4
+    (λ c. search needs)
     returns-4
-    same-length-5
+    (λ c. search needs)
     returns-5
     returns-6)

@@ -9,21 +9,6 @@ use Rattle.words.proofs.put_place.Tie as tie
 returns : tie.Need-returns
 returns c = (search needs, no-digit _ _ _ _ (c .if1 .taken))
 
-div-put-byte : tie.Need-div-put-byte
-div-put-byte c = search needs
-
-cast-put-byte : tie.Need-cast-put-byte
-cast-put-byte c = search needs
-
-add-put-byte : tie.Need-add-put-byte
-add-put-byte c = search needs
-
-put-byte-requires : tie.Need-put-byte-requires
-put-byte-requires c κs = search needs
-
-same-length : tie.Need-same-length
-same-length c = search needs
-
 returns-2 : tie.Need-returns-2
 returns-2 c = (search needs, digit-put _ _ _ _ _ _ (omega arith) (c .before .before .put-byte .ensures .1))
 
@@ -32,9 +17,9 @@ put-place-spec =
     tie.close
     (tie.spec
     returns
-    div-put-byte
-    cast-put-byte
-    add-put-byte
-    put-byte-requires
-    same-length
+    (λ c. search needs)
+    (λ c. search needs)
+    (λ c. search needs)
+    (λ c κs. search needs)
+    (λ c. search needs)
     returns-2)

@@ -10,131 +10,41 @@ use Rattle.words.proofs.Laws.{named, none-named}
 use Rattle.words.proofs.put_shape.Statement.{statement}
 use Rattle.words.proofs.put_shape.Tie as tie
 
-slice-aggregate-put-offset : tie.Need-slice-aggregate-put-offset
-slice-aggregate-put-offset c = search needs
-
-put-offset-requires : tie.Need-put-offset-requires
-put-offset-requires c κs = search needs
-
-slice-aggregate-put-offset-2 : tie.Need-slice-aggregate-put-offset-2
-slice-aggregate-put-offset-2 c = search needs
-
-put-offset-requires-2 : tie.Need-put-offset-requires-2
-put-offset-requires-2 c κs = search needs
-
-slice-aggregate-put-offset-3 : tie.Need-slice-aggregate-put-offset-3
-slice-aggregate-put-offset-3 c = search needs
-
-put-offset-requires-3 : tie.Need-put-offset-requires-3
-put-offset-requires-3 c κs = search needs
-
-slice-aggregate-put-offset-4 : tie.Need-slice-aggregate-put-offset-4
-slice-aggregate-put-offset-4 c = search needs
-
-put-offset-requires-4 : tie.Need-put-offset-requires-4
-put-offset-requires-4 c κs = search needs
-
-slice-aggregate-put-offset-5 : tie.Need-slice-aggregate-put-offset-5
-slice-aggregate-put-offset-5 c = search needs
-
-put-offset-requires-5 : tie.Need-put-offset-requires-5
-put-offset-requires-5 c κs = search needs
-
-slice-aggregate-put-offset-6 : tie.Need-slice-aggregate-put-offset-6
-slice-aggregate-put-offset-6 c = search needs
-
-put-offset-requires-6 : tie.Need-put-offset-requires-6
-put-offset-requires-6 c κs = search needs
-
-slice-aggregate-put-offset-7 : tie.Need-slice-aggregate-put-offset-7
-slice-aggregate-put-offset-7 c = search needs
-
-put-offset-requires-7 : tie.Need-put-offset-requires-7
-put-offset-requires-7 c κs = search needs
-
-slice-aggregate-put-offset-8 : tie.Need-slice-aggregate-put-offset-8
-slice-aggregate-put-offset-8 c = search needs
-
-put-offset-requires-8 : tie.Need-put-offset-requires-8
-put-offset-requires-8 c κs = search needs
-
-slice-aggregate-put-offset-9 : tie.Need-slice-aggregate-put-offset-9
-slice-aggregate-put-offset-9 c = search needs
-
-put-offset-requires-9 : tie.Need-put-offset-requires-9
-put-offset-requires-9 c κs = search needs
-
-slice-aggregate-put-one : tie.Need-slice-aggregate-put-one
-slice-aggregate-put-one c = search needs
-
-put-one-requires : tie.Need-put-one-requires
-put-one-requires c κs = search needs
-
-same-length : tie.Need-same-length
-same-length c = search needs
-
 returns : tie.Need-returns
 unfolding shapeTexts shortWord
 returns c = (omega arith, named _ _ (shapeTexts (c .before .before .before .before .before .before .before .args .offset)) _ _ _ 1 (c .before .before .before .before .before .match .keys1) (c .before .before .put-offset .ensures .1))
-
-same-length-2 : tie.Need-same-length-2
-same-length-2 c = search needs
 
 returns-2 : tie.Need-returns-2
 unfolding shapeTexts markWord
 returns-2 c = (omega arith, named _ _ (shapeTexts (c .before .before .before .before .before .before .before .args .offset)) _ _ _ 2 (c .before .before .before .before .before .match .keys2) (c .before .before .put-offset2 .ensures .1))
 
-same-length-3 : tie.Need-same-length-3
-same-length-3 c = search needs
-
 returns-3 : tie.Need-returns-3
 unfolding shapeTexts versionWord
 returns-3 c = (omega arith, named _ _ (shapeTexts (c .before .before .before .before .before .before .before .args .offset)) _ _ _ 3 (c .before .before .before .before .before .match .keys3) (c .before .before .put-offset3 .ensures .1))
-
-same-length-4 : tie.Need-same-length-4
-same-length-4 c = search needs
 
 returns-4 : tie.Need-returns-4
 unfolding shapeTexts countWord
 returns-4 c = (omega arith, named _ _ (shapeTexts (c .before .before .before .before .before .before .before .args .offset)) _ _ _ 4 (c .before .before .before .before .before .match .keys4) (c .before .before .put-offset4 .ensures .1))
 
-same-length-5 : tie.Need-same-length-5
-same-length-5 c = search needs
-
 returns-5 : tie.Need-returns-5
 unfolding shapeTexts machineWord
 returns-5 c = (omega arith, named _ _ (shapeTexts (c .before .before .before .before .before .before .before .args .offset)) _ _ _ 5 (c .before .before .before .before .before .match .keys5) (c .before .before .put-offset5 .ensures .1))
-
-same-length-6 : tie.Need-same-length-6
-same-length-6 c = search needs
 
 returns-6 : tie.Need-returns-6
 unfolding shapeTexts nodeWord
 returns-6 c = (omega arith, named _ _ (shapeTexts (c .before .before .before .before .before .before .before .args .offset)) _ _ _ 6 (c .before .before .before .before .before .match .keys6) (c .before .before .put-offset6 .ensures .1))
 
-same-length-7 : tie.Need-same-length-7
-same-length-7 c = search needs
-
 returns-7 : tie.Need-returns-7
 unfolding shapeTexts edgeWord
 returns-7 c = (omega arith, named _ _ (shapeTexts (c .before .before .before .before .before .before .before .args .offset)) _ _ _ 7 (c .before .before .before .before .before .match .keys7) (c .before .before .put-offset7 .ensures .1))
-
-same-length-8 : tie.Need-same-length-8
-same-length-8 c = search needs
 
 returns-8 : tie.Need-returns-8
 unfolding shapeTexts startWord
 returns-8 c = (omega arith, named _ _ (shapeTexts (c .before .before .before .before .before .before .before .args .offset)) _ _ _ 8 (c .before .before .before .before .before .match .keys8) (c .before .before .put-offset8 .ensures .1))
 
-same-length-9 : tie.Need-same-length-9
-same-length-9 c = search needs
-
 returns-9 : tie.Need-returns-9
 unfolding shapeTexts retimingWord
 returns-9 c = (omega arith, named _ _ (shapeTexts (c .before .before .before .before .before .before .before .args .offset)) _ _ _ 9 (c .before .before .before .before .before .match .keys9) (c .before .before .put-offset9 .ensures .1))
-
-same-length-10 : tie.Need-same-length-10
-same-length-10 c = search needs
 
 returns-10 : tie.Need-returns-10
 unfolding shapeTexts tailWord
@@ -147,44 +57,44 @@ pub put-shape-spec : {M : Type 1} → statement M
 put-shape-spec =
     tie.close
     (tie.spec
-    slice-aggregate-put-offset
-    put-offset-requires
-    slice-aggregate-put-offset-2
-    put-offset-requires-2
-    slice-aggregate-put-offset-3
-    put-offset-requires-3
-    slice-aggregate-put-offset-4
-    put-offset-requires-4
-    slice-aggregate-put-offset-5
-    put-offset-requires-5
-    slice-aggregate-put-offset-6
-    put-offset-requires-6
-    slice-aggregate-put-offset-7
-    put-offset-requires-7
-    slice-aggregate-put-offset-8
-    put-offset-requires-8
-    slice-aggregate-put-offset-9
-    put-offset-requires-9
-    slice-aggregate-put-one
-    put-one-requires
-    same-length
+    (λ c. search needs)
+    (λ c κs. search needs)
+    (λ c. search needs)
+    (λ c κs. search needs)
+    (λ c. search needs)
+    (λ c κs. search needs)
+    (λ c. search needs)
+    (λ c κs. search needs)
+    (λ c. search needs)
+    (λ c κs. search needs)
+    (λ c. search needs)
+    (λ c κs. search needs)
+    (λ c. search needs)
+    (λ c κs. search needs)
+    (λ c. search needs)
+    (λ c κs. search needs)
+    (λ c. search needs)
+    (λ c κs. search needs)
+    (λ c. search needs)
+    (λ c κs. search needs)
+    (λ c. search needs)
     returns
-    same-length-2
+    (λ c. search needs)
     returns-2
-    same-length-3
+    (λ c. search needs)
     returns-3
-    same-length-4
+    (λ c. search needs)
     returns-4
-    same-length-5
+    (λ c. search needs)
     returns-5
-    same-length-6
+    (λ c. search needs)
     returns-6
-    same-length-7
+    (λ c. search needs)
     returns-7
-    same-length-8
+    (λ c. search needs)
     returns-8
-    same-length-9
+    (λ c. search needs)
     returns-9
-    same-length-10
+    (λ c. search needs)
     returns-10
     returns-11)

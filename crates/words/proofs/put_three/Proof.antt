@@ -6,18 +6,9 @@ use Rattle.words.specs.Refusals.{threeText}
 use Rattle.words.proofs.put_three.Statement.{statement}
 use Rattle.words.proofs.put_three.Tie as tie
 
-put-two-requires : tie.Need-put-two-requires
-put-two-requires c κs = search needs
-
-put-one-requires : tie.Need-put-one-requires
-put-one-requires c κs = search needs
-
-same-length : tie.Need-same-length
-same-length c = search needs
-
 returns : tie.Need-returns
 unfolding threeText
 returns c = (search needs, both _ _ _ _ _ _ _ _ (c .before .before .before .before .before .before .put-two .ensures .1) (c .before .before .put-one .ensures .1))
 
 pub put-three-spec : {M : Type 1} → statement M
-put-three-spec = tie.close (tie.spec put-two-requires put-one-requires same-length returns)
+put-three-spec = tie.close (tie.spec (λ c κs. search needs) (λ c κs. search needs) (λ c. search needs) returns)

@@ -6,18 +6,9 @@ use Rattle.words.specs.Refusals.{twoText}
 use Rattle.words.proofs.put_two.Statement.{statement}
 use Rattle.words.proofs.put_two.Tie as tie
 
-put-one-requires : tie.Need-put-one-requires
-put-one-requires c κs = search needs
-
-put-one-requires-2 : tie.Need-put-one-requires-2
-put-one-requires-2 c κs = search needs
-
-same-length : tie.Need-same-length
-same-length c = search needs
-
 returns : tie.Need-returns
 unfolding twoText
 returns c = (search needs, both _ _ _ _ _ _ _ _ (c .before .before .before .before .before .before .put-one .ensures .1) (c .before .before .put-one2 .ensures .1))
 
 pub put-two-spec : {M : Type 1} → statement M
-put-two-spec = tie.close (tie.spec put-one-requires put-one-requires-2 same-length returns)
+put-two-spec = tie.close (tie.spec (λ c κs. search needs) (λ c κs. search needs) (λ c. search needs) returns)

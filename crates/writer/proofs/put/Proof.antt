@@ -6,19 +6,10 @@ use Rattle.writer.proofs.Laws.{cramped, fits}
 use Rattle.writer.proofs.put.Statement.{statement}
 use Rattle.writer.proofs.put.Tie as tie
 
-cast-told : tie.Need-cast-told
-cast-told c = search needs
-
 returns : tie.Need-returns
 returns c f is good =
     let a = c .before .before .before .args in
     cramped f (a .bytes .now) (a .out .now) is good (omega (arith, c .if1 .taken))
-
-copy-requires : tie.Need-copy-requires
-copy-requires c κs = search needs
-
-same-length : tie.Need-same-length
-same-length c = search needs
 
 returns-2 : tie.Need-returns-2
 returns-2 c f is good =
@@ -28,4 +19,4 @@ returns-2 c f is good =
     fits f (a .bytes .now) (a .out .now) is good _ (omega arith) _ (omega (arith, t .if1 .left)) (k .copy .ensures)
 
 pub put-spec : {M : Type 1} → statement M
-put-spec = tie.close (tie.spec cast-told returns copy-requires same-length returns-2)
+put-spec = tie.close (tie.spec (λ c. search needs) returns (λ c κs. search needs) (λ c. search needs) returns-2)

@@ -7,24 +7,6 @@ use borrow.Author.Needs.{needs}
 use Rattle.writer.proofs.put_class.Statement.{statement}
 use Rattle.writer.proofs.put_class.Tie as tie
 
-element-write-out : tie.Need-element-write-out
-element-write-out c = search needs
-
-add-out : tie.Need-add-out
-add-out c = search needs
-
-element-write-out-2 : tie.Need-element-write-out-2
-element-write-out-2 c = search needs
-
-add-out-2 : tie.Need-add-out-2
-add-out-2 c = search needs
-
-element-write-out-3 : tie.Need-element-write-out-3
-element-write-out-3 c = search needs
-
-add-result : tie.Need-add-result
-add-result c = search needs
-
 returns : tie.Need-returns
 unfolding classBytes
 returns c = (search needs, record { is = simp unary-clauses; ends = refl })
@@ -33,10 +15,10 @@ pub put-class-spec : {M : Type 1} → statement M
 put-class-spec =
     tie.close
     (tie.spec
-    element-write-out
-    add-out
-    element-write-out-2
-    add-out-2
-    element-write-out-3
-    add-result
+    (λ c. search needs)
+    (λ c. search needs)
+    (λ c. search needs)
+    (λ c. search needs)
+    (λ c. search needs)
+    (λ c. search needs)
     returns)

@@ -22,24 +22,6 @@ loop-holds : tie.Need-loop-holds Inv-loop μ-loop
 unfolding rows
 loop-holds c = (search tests, search tests, nothing _ _)
 
-element-copy-out-t13 : tie.Need-element-copy-out-t13 Inv-loop μ-loop
-element-copy-out-t13 c = search tests
-
-element-copy-out-t16 : tie.Need-element-copy-out-t16 Inv-loop μ-loop
-element-copy-out-t16 c = search tests
-
-element-copy-out-t19 : tie.Need-element-copy-out-t19 Inv-loop μ-loop
-element-copy-out-t19 c = search tests
-
-put-edge-requires : tie.Need-put-edge-requires Inv-loop μ-loop
-put-edge-requires c κs = search tests
-
-add-i : tie.Need-add-i Inv-loop μ-loop
-add-i c = search tests
-
-loop-less : tie.Need-loop-less Inv-loop μ-loop
-loop-less c = search tests
-
 loop-again : tie.Need-loop-again Inv-loop μ-loop
 loop-again c = (search tests, search tests, row-more _ _ _ _ _ _ _ _ (c .before .before .before .before .before .before .loop .inv .2) (c .put-edge .ensures .1))
 
@@ -55,11 +37,11 @@ put-edges-spec =
     Inv-loop
     μ-loop
     loop-holds
-    element-copy-out-t13
-    element-copy-out-t16
-    element-copy-out-t19
-    put-edge-requires
-    add-i
-    loop-less
+    (λ c. search tests)
+    (λ c. search tests)
+    (λ c. search tests)
+    (λ c κs. search tests)
+    (λ c. search tests)
+    (λ c. search tests)
     loop-again
     returns)

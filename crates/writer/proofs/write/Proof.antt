@@ -10,28 +10,16 @@ use Rattle.writer.proofs.Laws.{front-long, front, refused, accepted}
 use Rattle.writer.proofs.write.Statement.{statement}
 use Rattle.writer.proofs.write.Tie as tie
 
-lay-requires : tie.Need-lay-requires
-lay-requires c κs = search needs
-
 array-share-prefix-buffer : tie.Need-array-share-prefix-buffer
 array-share-prefix-buffer c = omega (arith, same-long _ _ _ _ _ (c .lay .ensures .1))
 
 slice-aggregate-bytes : tie.Need-slice-aggregate-bytes
 slice-aggregate-bytes c = let l = c .before .lay .ensures in sym (front-long (replicate 1367 0) _ _ _ (l .1) (l .0))
 
-read-requires : tie.Need-read-requires
-read-requires c κs = search needs
-
-is-fine-requires : tie.Need-is-fine-requires
-is-fine-requires c κs = search needs
-
 put-requires : tie.Need-put-requires
 put-requires c κs =
     let l = c .before .before .before .before .before .lay .ensures in
     omega (arith, l .0, front-long (replicate 1367 0) _ _ _ (l .1) (l .0))
-
-same-length : tie.Need-same-length
-same-length c = search needs
 
 returns-2 : tie.Need-returns-2
 returns-2 c =
@@ -52,12 +40,12 @@ pub write-spec : {M : Type 1} → statement M
 write-spec =
     tie.close
     (tie.spec
-    lay-requires
+    (λ c κs. search needs)
     array-share-prefix-buffer
     slice-aggregate-bytes
-    read-requires
-    is-fine-requires
+    (λ c κs. search needs)
+    (λ c κs. search needs)
     returns
     put-requires
-    same-length
+    (λ c. search needs)
     returns-2)

@@ -9,9 +9,6 @@ use Rattle.writer.proofs.Laws.{front-long, front}
 use Rattle.writer.proofs.write_taken.Statement.{statement}
 use Rattle.writer.proofs.write_taken.Tie as tie
 
-lay-requires : tie.Need-lay-requires
-lay-requires c κs = search needs
-
 array-share-prefix-buffer : tie.Need-array-share-prefix-buffer
 array-share-prefix-buffer c = omega (arith, same-long _ _ _ _ _ (c .lay .ensures .1))
 
@@ -23,9 +20,6 @@ put-requires c κs =
     let l = c .before .before .lay .ensures in
     omega (arith, l .0, front-long (replicate 1367 0) _ _ _ (l .1) (l .0))
 
-same-length : tie.Need-same-length
-same-length c = search needs
-
 returns : tie.Need-returns
 returns c =
     let p = c .before .before in
@@ -36,9 +30,9 @@ pub write-taken-spec : {M : Type 1} → statement M
 write-taken-spec =
     tie.close
     (tie.spec
-    lay-requires
+    (λ c κs. search needs)
     array-share-prefix-buffer
     slice-aggregate-put
     put-requires
-    same-length
+    (λ c. search needs)
     returns)

@@ -6,132 +6,6 @@ use borrow.Author.Needs.{needs}
 use Rattle.answer.proofs.Refusal.details.Statement.{statement}
 use Rattle.answer.proofs.Refusal.details.Tie as tie
 
-enum-told : tie.Need-enum-told
-enum-told c = search needs
-
-numbers-of-requires : tie.Need-numbers-of-requires
-numbers-of-requires c κs = search needs
-
-enum-known-self : tie.Need-enum-known-self
-enum-known-self c = search needs
-
-numbers-of-requires-2 : tie.Need-numbers-of-requires-2
-numbers-of-requires-2 c κs = search needs
-
-enum-known-self-2 : tie.Need-enum-known-self-2
-enum-known-self-2 c = search needs
-
-numbers-of-requires-3 : tie.Need-numbers-of-requires-3
-numbers-of-requires-3 c κs = search needs
-
-enum-known-self-3 : tie.Need-enum-known-self-3
-enum-known-self-3 c = search needs
-
-numbers-of-requires-4 : tie.Need-numbers-of-requires-4
-numbers-of-requires-4 c κs = search needs
-
-enum-known-self-4 : tie.Need-enum-known-self-4
-enum-known-self-4 c = search needs
-
-numbers-of-requires-5 : tie.Need-numbers-of-requires-5
-numbers-of-requires-5 c κs = search needs
-
-enum-known-self-5 : tie.Need-enum-known-self-5
-enum-known-self-5 c = search needs
-
-numbers-of-requires-6 : tie.Need-numbers-of-requires-6
-numbers-of-requires-6 c κs = search needs
-
-enum-known-self-6 : tie.Need-enum-known-self-6
-enum-known-self-6 c = search needs
-
-numbers-of-requires-7 : tie.Need-numbers-of-requires-7
-numbers-of-requires-7 c κs = search needs
-
-enum-known-self-7 : tie.Need-enum-known-self-7
-enum-known-self-7 c = search needs
-
-numbers-of-requires-8 : tie.Need-numbers-of-requires-8
-numbers-of-requires-8 c κs = search needs
-
-enum-known-self-8 : tie.Need-enum-known-self-8
-enum-known-self-8 c = search needs
-
-numbers-of-requires-9 : tie.Need-numbers-of-requires-9
-numbers-of-requires-9 c κs = search needs
-
-enum-known-self-9 : tie.Need-enum-known-self-9
-enum-known-self-9 c = search needs
-
-numbers-of-requires-10 : tie.Need-numbers-of-requires-10
-numbers-of-requires-10 c κs = search needs
-
-enum-known-self-10 : tie.Need-enum-known-self-10
-enum-known-self-10 c = search needs
-
-numbers-of-requires-11 : tie.Need-numbers-of-requires-11
-numbers-of-requires-11 c κs = search needs
-
-enum-told-2 : tie.Need-enum-told-2
-enum-told-2 c = search needs
-
-numbers-of-requires-12 : tie.Need-numbers-of-requires-12
-numbers-of-requires-12 c κs = search needs
-
-enum-told-3 : tie.Need-enum-told-3
-enum-told-3 c = search needs
-
-numbers-of-requires-13 : tie.Need-numbers-of-requires-13
-numbers-of-requires-13 c κs = search needs
-
-enum-known-self-11 : tie.Need-enum-known-self-11
-enum-known-self-11 c = search needs
-
-numbers-of-requires-14 : tie.Need-numbers-of-requires-14
-numbers-of-requires-14 c κs = search needs
-
-enum-told-4 : tie.Need-enum-told-4
-enum-told-4 c = search needs
-
-numbers-of-requires-15 : tie.Need-numbers-of-requires-15
-numbers-of-requires-15 c κs = search needs
-
-enum-known-self-12 : tie.Need-enum-known-self-12
-enum-known-self-12 c = search needs
-
-numbers-of-requires-16 : tie.Need-numbers-of-requires-16
-numbers-of-requires-16 c κs = search needs
-
-enum-known-self-13 : tie.Need-enum-known-self-13
-enum-known-self-13 c = search needs
-
-numbers-of-requires-17 : tie.Need-numbers-of-requires-17
-numbers-of-requires-17 c κs = search needs
-
-enum-told-5 : tie.Need-enum-told-5
-enum-told-5 c = search needs
-
-numbers-of-requires-18 : tie.Need-numbers-of-requires-18
-numbers-of-requires-18 c κs = search needs
-
-enum-known-self-14 : tie.Need-enum-known-self-14
-enum-known-self-14 c = search needs
-
-numbers-of-requires-19 : tie.Need-numbers-of-requires-19
-numbers-of-requires-19 c κs = search needs
-
-enum-known-self-15 : tie.Need-enum-known-self-15
-enum-known-self-15 c = search needs
-
-numbers-of-requires-20 : tie.Need-numbers-of-requires-20
-numbers-of-requires-20 c κs = search needs
-
-enum-known-self-16 : tie.Need-enum-known-self-16
-enum-known-self-16 c = search needs
-
-numbers-of-requires-21 : tie.Need-numbers-of-requires-21
-numbers-of-requires-21 c κs = search needs
-
 returns : tie.Need-returns
 returns c = c .numbers-of .ensures ∙ sym (ap detailsOf (c .before .enum-told .given .1))
 
@@ -199,48 +73,48 @@ pub details-spec : {M : Type 1} → statement M
 details-spec =
     tie.close
     (tie.spec
-    enum-told
-    numbers-of-requires
-    enum-known-self
-    numbers-of-requires-2
-    enum-known-self-2
-    numbers-of-requires-3
-    enum-known-self-3
-    numbers-of-requires-4
-    enum-known-self-4
-    numbers-of-requires-5
-    enum-known-self-5
-    numbers-of-requires-6
-    enum-known-self-6
-    numbers-of-requires-7
-    enum-known-self-7
-    numbers-of-requires-8
-    enum-known-self-8
-    numbers-of-requires-9
-    enum-known-self-9
-    numbers-of-requires-10
-    enum-known-self-10
-    numbers-of-requires-11
-    enum-told-2
-    numbers-of-requires-12
-    enum-told-3
-    numbers-of-requires-13
-    enum-known-self-11
-    numbers-of-requires-14
-    enum-told-4
-    numbers-of-requires-15
-    enum-known-self-12
-    numbers-of-requires-16
-    enum-known-self-13
-    numbers-of-requires-17
-    enum-told-5
-    numbers-of-requires-18
-    enum-known-self-14
-    numbers-of-requires-19
-    enum-known-self-15
-    numbers-of-requires-20
-    enum-known-self-16
-    numbers-of-requires-21
+    (λ c. search needs)
+    (λ c κs. search needs)
+    (λ c. search needs)
+    (λ c κs. search needs)
+    (λ c. search needs)
+    (λ c κs. search needs)
+    (λ c. search needs)
+    (λ c κs. search needs)
+    (λ c. search needs)
+    (λ c κs. search needs)
+    (λ c. search needs)
+    (λ c κs. search needs)
+    (λ c. search needs)
+    (λ c κs. search needs)
+    (λ c. search needs)
+    (λ c κs. search needs)
+    (λ c. search needs)
+    (λ c κs. search needs)
+    (λ c. search needs)
+    (λ c κs. search needs)
+    (λ c. search needs)
+    (λ c κs. search needs)
+    (λ c. search needs)
+    (λ c κs. search needs)
+    (λ c. search needs)
+    (λ c κs. search needs)
+    (λ c. search needs)
+    (λ c κs. search needs)
+    (λ c. search needs)
+    (λ c κs. search needs)
+    (λ c. search needs)
+    (λ c κs. search needs)
+    (λ c. search needs)
+    (λ c κs. search needs)
+    (λ c. search needs)
+    (λ c κs. search needs)
+    (λ c. search needs)
+    (λ c κs. search needs)
+    (λ c. search needs)
+    (λ c κs. search needs)
+    (λ c. search needs)
+    (λ c κs. search needs)
     returns
     returns-2
     returns-3

@@ -7,12 +7,9 @@ use borrow.Author.Needs.{needs}
 use Rattle.answer.proofs.Refusal.is_fine.Statement.{statement}
 use Rattle.answer.proofs.Refusal.is_fine.Tie as tie
 
-number-requires : tie.Need-number-requires
-number-requires c κs = search needs
-
 returns : tie.Need-returns
 unfolding fine
 returns c = ap (λ n. eqb n 0) (c .number .ensures)
 
 pub is-fine-spec : {M : Type 1} → statement M
-is-fine-spec = tie.close (tie.spec number-requires returns)
+is-fine-spec = tie.close (tie.spec (λ c κs. search needs) returns)

@@ -12,21 +12,6 @@ returns : tie.Need-returns
 unfolding edgeAdded addedTo pick
 returns c = simp (le-ltb (c .before .args .t1 .edges) 256 (omega (arith, c .if1 .taken)))
 
-cast-at : tie.Need-cast-at
-cast-at c = search needs
-
-element-write-self : tie.Need-element-write-self
-element-write-self c = search needs
-
-element-write-self-2 : tie.Need-element-write-self-2
-element-write-self-2 c = search needs
-
-element-write-self-3 : tie.Need-element-write-self-3
-element-write-self-3 c = search needs
-
-add-self : tie.Need-add-self
-add-self c = search needs
-
 returns-2 : tie.Need-returns-2
 unfolding edgeAdded addedTo pick
 returns-2 c = simp (lt-ltb (c .before .args .t1 .edges) 256 (omega (arith, c .if1 .left)))
@@ -36,9 +21,9 @@ add-edge-spec =
     tie.close
     (tie.spec
     returns
-    cast-at
-    element-write-self
-    element-write-self-2
-    element-write-self-3
-    add-self
+    (λ c. search needs)
+    (λ c. search needs)
+    (λ c. search needs)
+    (λ c. search needs)
+    (λ c. search needs)
     returns-2)

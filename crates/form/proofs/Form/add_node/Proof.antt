@@ -12,22 +12,10 @@ returns : tie.Need-returns
 unfolding nodeAdded addedTo pick
 returns c = simp (le-ltb (c .before .args .t1 .nodes) 64 (omega (arith, c .if1 .taken)))
 
-cast-at : tie.Need-cast-at
-cast-at c = search needs
-
-mul-node : tie.Need-mul-node
-mul-node c = search needs
-
-element-set-from-node : tie.Need-element-set-from-node
-element-set-from-node c = search needs
-
-add-self : tie.Need-add-self
-add-self c = search needs
-
 returns-2 : tie.Need-returns-2
 unfolding nodeAdded addedTo pick
 returns-2 c = simp (lt-ltb (c .before .args .t1 .nodes) 64 (omega (arith, c .if1 .left)))
 
 pub add-node-spec : {M : Type 1} → statement M
 add-node-spec =
-    tie.close (tie.spec returns cast-at mul-node element-set-from-node add-self returns-2)
+    tie.close (tie.spec returns (λ c. search needs) (λ c. search needs) (λ c. search needs) (λ c. search needs) returns-2)

@@ -6,9 +6,6 @@ use Rattle.rsk.proofs.Laws.{product, product-fits}
 use Rattle.rsk.proofs.work.last_of.Statement.{statement}
 use Rattle.rsk.proofs.work.last_of.Tie as tie
 
-sub-result : tie.Need-sub-result
-sub-result c = search needs
-
 mul-result : tie.Need-mul-result
 mul-result c = product-fits _ _ (omega arith) (omega arith)
 
@@ -16,4 +13,4 @@ returns : tie.Need-returns
 returns c = product _ _ (omega arith) (omega arith)
 
 pub last-of-spec : {M : Type 1} → statement M
-last-of-spec = tie.close (tie.spec sub-result mul-result returns)
+last-of-spec = tie.close (tie.spec (λ c. search needs) mul-result returns)
