@@ -30,13 +30,14 @@ use Rattle.tables.specs.Most.{mostOf}
 use Rattle.tables.specs.Times.{Timed}
 use Rattle.knots.specs.Found.{KnotFound}
 use Rattle.record.specs.Early.{read-early}
-use Rattle.floor.specs.declared.Part.{Part}
-use Rattle.floor.specs.declared.Part.the-variants as part
+use Rattle.floor_part.specs.declared.Part.{Part}
+use Rattle.floor_part.specs.declared.Part.the-variants as part
 use Rattle.floor.specs.declared.Floored.{Floored}
 use Rattle.floor.specs.Parts.{latencyPart, unitsPart, unitsParts, cyclePart, floorLength}
 use Rattle.floor.specs.Least.{enough, short-less, cycle-one, cycle-512}
 use Rattle.floor.specs.Tables.{Measured}
-use Rattle.floor.specs.Floor.{partNumber, partOf, floorRefusal, FloorCycle, FormFloored, floorRecord, RecordFloored}
+use Rattle.floor_part.specs.Numbers.{partNumber}
+use Rattle.floor.specs.Floor.{partOf, floorRefusal, FloorCycle, FormFloored, floorRecord, RecordFloored}
 use Rattle.floor.specs.Named.{Attains, latency, units, cycle-named, cycle-attained, named-is, cycle-two, floor-short}
 
 -- ---- what is worked out of a loop without a knot

@@ -18,23 +18,10 @@ use Rattle.system.specs.System.{Losing}
 use Rattle.legal.specs.Loop.{Loop, loopOf}
 use Rattle.legal.specs.Legal.{Knot}
 use Rattle.legal.specs.Systems.{knotted, paces}
-use Rattle.floor.specs.declared.Part.{Part}
-use Rattle.floor.specs.declared.Part.the-variants as part
+use Rattle.floor_part.specs.declared.Part.{Part}
+use Rattle.floor_part.specs.declared.Part.the-variants as part
 use Rattle.floor.specs.declared.Floored.{Floored}
 use Rattle.floor.specs.Parts.{latencyPart, unitsPart, unitsParts, floorLength}
-
--- the part's number among the answers, and its class
-abbrev pub partNumber : Part → ℕ
-partNumber part.None = 0
-partNumber part.Latency = 1
-partNumber (part.Units c) = 2
-partNumber part.Cycle = 3
-
-abbrev pub partClass : Part → ℕ
-partClass part.None = 0
-partClass part.Latency = 0
-partClass (part.Units c) = c
-partClass part.Cycle = 0
 
 -- the first of a, b, c that attains the floor, b with the lowest class
 unfoldable pub partOf : Loop → Part

@@ -16,8 +16,8 @@ use Rattle.system.specs.System.{Losing}
 use Rattle.legal.specs.Loop.{Loop}
 use Rattle.legal.specs.Systems.{paces}
 use Rattle.legal.specs.Shape.{Sound}
-use Rattle.floor.specs.declared.Part.{Part}
-use Rattle.floor.specs.declared.Part.the-variants as part
+use Rattle.floor_part.specs.declared.Part.{Part}
+use Rattle.floor_part.specs.declared.Part.the-variants as part
 use Rattle.floor.specs.Parts.{latencyPart, unitsPart, unitsParts, cyclePart, floorLength}
 use Rattle.floor.specs.Least.{enough, cycle-one, cycle-below, short-losing}
 use Rattle.floor.specs.Bounds.{latency-one}

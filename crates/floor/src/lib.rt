@@ -17,19 +17,12 @@ ghost use Rattle.tables.specs.Lent.{Lent};
 ghost use Rattle.floor.specs.Parts.{cyclePart};
 ghost use Rattle.floor.specs.Least.{enough};
 ghost use Rattle.floor.specs.Tables.{howMany, Edged, Costed, Paced, Busy, Measured};
-ghost use Rattle.floor.specs.Floor.{partNumber, partClass, FormFloored, RecordFloored};
+ghost use Rattle.floor.specs.Floor.{FormFloored, RecordFloored};
 use answer::Cycle;
 use answer::Refusal;
+use floor_part::Part;
 use form::Class;
 use tables::Timetable;
-
-// What attains the floor: the largest latency, the busy steps of a class, or a cycle. `None`: nothing was worked out.
-pub enum Part {
-    None,
-    Latency,
-    Units(u32),
-    Cycle,
-}
 
 // The floor and the part that attains it first; refused, 0 and no part.
 pub struct Floored {
@@ -51,30 +44,6 @@ struct AllParts {
     units: u16,
     class: u8,
     floor: u16,
-}
-
-// The part's number among the answers.
-pub fn part_number(part: Part) -> u32
-    ensures { λ r. ⌜ r ≡ partNumber part ⌝ }
-{
-    match part {
-        Part::None => 0,
-        Part::Latency => 1,
-        Part::Units(_) => 2,
-        Part::Cycle => 3,
-    }
-}
-
-// The class of a part that has one, else 0.
-pub fn part_class(part: Part) -> u32
-    ensures { λ r. ⌜ r ≡ partClass part ⌝ }
-{
-    match part {
-        Part::None => 0,
-        Part::Latency => 0,
-        Part::Units(class) => class,
-        Part::Cycle => 0,
-    }
 }
 
 // A byte as a u16; the bound spares each use a proof.

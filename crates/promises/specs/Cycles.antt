@@ -24,10 +24,11 @@ use Rattle.legal.specs.Legal.{Knot}
 use Rattle.legal.specs.Systems.{Impossible, paces}
 use Rattle.legal.specs.Handed.{Handed}
 use Rattle.floor.specs.declared.Floored.{Floored}
-use Rattle.floor.specs.declared.Part.{Part}
-use Rattle.floor.specs.declared.Part.the-variants as part
+use Rattle.floor_part.specs.declared.Part.{Part}
+use Rattle.floor_part.specs.declared.Part.the-variants as part
 use Rattle.floor.specs.Parts.{floorLength}
-use Rattle.floor.specs.Floor.{partNumber, partClass, RecordFloored}
+use Rattle.floor_part.specs.Numbers.{partNumber, partClass}
+use Rattle.floor.specs.Floor.{RecordFloored}
 use Rattle.rsk_c.specs.Answered.{Answered, JudgeAnswered, FitAnswered, FirstAnswered, RotateAnswered, SearchAnswered, PlainAnswered, FloorAnswered, RunAnswered}
 
 -- ---- which refusal a number is, of those that a cycle stands beside

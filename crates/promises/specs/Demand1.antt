@@ -40,7 +40,7 @@ use Rattle.plain.specs.declared.Looped.{Looped}
 use Rattle.plain.specs.Answer.{RecordLooped}
 use Rattle.plain.specs.Only as loops
 use Rattle.floor.specs.declared.Floored.{Floored}
-use Rattle.floor.specs.declared.Part.the-variants as part
+use Rattle.floor_part.specs.declared.Part.the-variants as part
 use Rattle.floor.specs.Floor.{RecordFloored}
 use mathlib.Core.Bool.{Bool, true≢false}
 use mathlib.Core.Path.{refl}

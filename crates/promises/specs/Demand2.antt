@@ -54,7 +54,7 @@ use Rattle.search.specs.Laws as searches
 use Rattle.fit.specs.Retimed.{fittedForm}
 use Rattle.fit.specs.Fitting.{fitOf}
 use Rattle.fit.specs.Laws as fitting
-use Rattle.floor.specs.declared.Part.the-variants as part
+use Rattle.floor_part.specs.declared.Part.the-variants as part
 use Rattle.floor.specs.Parts.{latencyPart, unitsPart, cyclePart, floorLength}
 use Rattle.floor.specs.Floor.{partOf}
 use Prim.Native.Nat.{_*_}

@@ -24,7 +24,8 @@ use Rattle.legal.specs.Judging.{breaks, brokenEdge, over, overClass, overStep, 
 use Rattle.fit.specs.Retimed.{retimings, withRetiming, fittedForm}
 use Rattle.fit.specs.Fitting.{fitOf}
 use Rattle.floor.specs.Parts.{latencyPart, nodesOn, unitsPart, unitsParts, cyclePart, floorLength}
-use Rattle.floor.specs.Floor.{partNumber, partClass, partOf, floorRefusal}
+use Rattle.floor_part.specs.Numbers.{partNumber, partClass}
+use Rattle.floor.specs.Floor.{partOf, floorRefusal}
 use Rattle.reach.specs.Weight.{tight, spread, sweep, reach, reachedFrom, weight}
 use Rattle.list_rule.specs.Order.{insert, orderOf}
 use Rattle.list_rule.specs.Rule.{uses, inUse, free, blocks, ready, place, fillStep, allPlaced, fillFrom, listRule, lengthOf}

@@ -21,7 +21,8 @@ use Rattle.run.specs.Running.{RecordRun}
 use Rattle.plain.specs.declared.Looped.{Looped}
 use Rattle.plain.specs.Answer.{RecordLooped}
 use Rattle.floor.specs.declared.Floored.{Floored}
-use Rattle.floor.specs.Floor.{partNumber, partClass, RecordFloored}
+use Rattle.floor_part.specs.Numbers.{partNumber, partClass}
+use Rattle.floor.specs.Floor.{RecordFloored}
 
 -- of an answer of type A: its contract, its refusal, its numbers and its cycle
 pub record Answered (A : Type 0) (meets : A → Type 0) (refused : A → Refusal) (numbers : A → Details) (cycle : A → Cycle) (number : ℕ) (list : List ℕ) : Type 0 where

@@ -120,8 +120,8 @@ pub extern "C" fn rsk_floor(record: &[u8], answer: &mut [u32; 69]) -> u32
     let refusal = floored.refusal;
     let part = floored.part;
     let cycle = floored.cycle;
-    let number = floor::part_number(part);
-    let class = floor::part_class(part);
+    let number = floor_part::part_number(part);
+    let class = floor_part::part_class(part);
     answer::fill(
         answer,
         refusal,

@@ -8,7 +8,7 @@ use Rattle.form.specs.declared.Form.{Form}
 use Rattle.legal.specs.Loop.{loopOf}
 use Rattle.legal.specs.Systems.{knotted}
 use Rattle.tables.specs.Lent.{Lent, lent-ends, lent-sound}
-use Rattle.floor.specs.declared.Part.the-variants as part
+use Rattle.floor_part.specs.declared.Part.the-variants as part
 use Rattle.floor.specs.Tables.{Measured}
 use Rattle.floor.specs.Named.{Attains}
 use Rattle.floor.proofs.Laws.{lent-edged, lent-costed, lent-paced}
