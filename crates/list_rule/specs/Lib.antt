@@ -10,5 +10,3 @@ pub mod Filling
 pub mod Placed
 pub mod FirstLegal
 pub mod Tables
-pub mod Turned
-pub mod TurnedLegal

@@ -44,10 +44,10 @@ use Rattle.legal.specs.Systems.{knotted}
 use Rattle.list_rule.specs.Rule.{startAt, listRule}
 use Rattle.list_rule.specs.Filling as filling
 use Rattle.list_rule.specs.Placed.{rule-places}
-use Rattle.rotation.specs.Pairs.{withPair}
-use Rattle.rotation.specs.Rotation.{firstForm, rotatedLength, rotated, tooLong}
-use Rattle.rotation.specs.FirstLaws as firsts
-use Rattle.rotation.specs.RotatedLaws as rotations
+use Rattle.turning.specs.Pairs.{withPair}
+use Rattle.turning.specs.Rotation.{firstForm, rotatedLength, rotated, tooLong}
+use Rattle.turning.specs.FirstLaws as firsts
+use Rattle.turning.specs.RotatedLaws as rotations
 use Rattle.search.specs.Search.{searched}
 use Rattle.search.specs.Met.{met, Ends, Shortest, searched-ends, searched-shortest}
 use Rattle.search.specs.Laws as searches

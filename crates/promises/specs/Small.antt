@@ -31,12 +31,12 @@ use Rattle.list_rule.specs.Order.{insert, orderOf}
 use Rattle.list_rule.specs.Rule.{uses, inUse, free, blocks, ready, place, fillStep, allPlaced, fillFrom, listRule, lengthOf}
 use Rattle.list_rule.specs.FirstLegal.{firstStarts}
 use Rattle.list_rule.specs.Tables.{numbersOf, startsOf}
-use Rattle.list_rule.specs.Turned.{gainedBy, droppedBy}
-use Rattle.list_rule.specs.TurnedLegal.{turnedStarts}
-use Rattle.rotation.specs.Pairs.{withPair}
-use Rattle.rotation.specs.Rotation.{firstForm, rotatedStarts, rotatedLength, rotated, tooLong}
+use Rattle.turning.specs.Turned.{gainedBy, droppedBy}
+use Rattle.turning.specs.TurnedLegal.{turnedStarts}
+use Rattle.turning.specs.Pairs.{withPair}
+use Rattle.turning.specs.Rotation.{firstForm, rotatedStarts, rotatedLength, rotated, tooLong}
 use Rattle.rotation.specs.Scheduling.{firstAsked, turns, rotateAsked}
-use Rattle.rotation.specs.Worked.{smallForm, pairIn}
+use Rattle.turning.specs.Worked.{smallForm, pairIn}
 use Rattle.search.specs.Search.{halved, stops, shorter, turn, begun, searchFrom, searched}
 use Rattle.search.specs.Searching.{searchAsked, searchForm, searchTurns}
 use Rattle.machine.specs.Values.{plus, minus, times, difference, applied, edgesInto, operandBy, computedBy}

@@ -32,8 +32,8 @@ use Rattle.knots.specs.Found.{KnotFound}
 use Rattle.record.specs.Early.{read-early}
 use Rattle.rotation.specs.declared.Plan.{Plan}
 use Rattle.rotation.specs.declared.Scheduled.{Scheduled}
-use Rattle.rotation.specs.Rotation.{firstForm}
-use Rattle.rotation.specs.FirstLaws.{first-written}
+use Rattle.turning.specs.Rotation.{firstForm}
+use Rattle.turning.specs.FirstLaws.{first-written}
 use Rattle.rotation.specs.Scheduling.{scheduleRecord, RecordScheduled, Planned, PlanWritten, firstAsked, unturned}
 
 -- a choice goes the same way where the value chosen is the same

@@ -25,9 +25,9 @@ use Rattle.legal.specs.Judged.{judged, judged-none, judge-accepts}
 use Rattle.legal.specs.Handed.{handed-none}
 use Rattle.judge.specs.Judgement.{Judgement}
 use Rattle.judge.specs.declared.Judged as verdict
-use Rattle.rotation.specs.Pairs.{withPair}
-use Rattle.rotation.specs.Rotation.{rotatedLength, rotated, tooLong, turnedForm, rotatedOr}
-use Rattle.rotation.specs.RotatedLaws.{rotated-written}
+use Rattle.turning.specs.Pairs.{withPair}
+use Rattle.turning.specs.Rotation.{rotatedLength, rotated, tooLong, turnedForm, rotatedOr}
+use Rattle.turning.specs.RotatedLaws.{rotated-written}
 use Rattle.rotation.specs.Scheduling.{Planned, unturned, turns, rotateAsked, rotatedBy}
 
 -- what steps can be rotated

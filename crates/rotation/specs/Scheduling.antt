@@ -19,7 +19,7 @@ use Rattle.legal.specs.Loop.{loopOf, pairOf}
 use Rattle.legal.specs.Systems.{knotted}
 use Rattle.legal.specs.Judging.{judgeOf}
 use Rattle.legal.specs.Handed.{Handed}
-use Rattle.rotation.specs.Rotation.{rotated, tooLong}
+use Rattle.turning.specs.Rotation.{rotated, tooLong}
 use Rattle.rotation.specs.declared.Plan.{Plan}
 use Rattle.rotation.specs.declared.Scheduled.{Scheduled}
 

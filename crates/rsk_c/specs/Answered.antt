@@ -13,7 +13,7 @@ use Rattle.judge.specs.Judgement.{RecordJudgement}
 use Rattle.fit.specs.declared.Fitted.{Fitted}
 use Rattle.fit.specs.Fitting.{RecordFitted}
 use Rattle.rotation.specs.declared.Scheduled.{Scheduled}
-use Rattle.rotation.specs.Rotation.{firstForm}
+use Rattle.turning.specs.Rotation.{firstForm}
 use Rattle.rotation.specs.Scheduling.{RecordScheduled, firstAsked, unturned, rotateAsked, rotatedBy}
 use Rattle.search.specs.Searching.{searchAsked, searchForm, searchTurns}
 use Rattle.run.specs.declared.Ran.{Ran}

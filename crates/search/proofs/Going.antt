@@ -15,8 +15,8 @@ use Rattle.form.specs.Ranges.{WellFormed}
 use Rattle.legal.specs.Loop.{loopOf, pairOf}
 use Rattle.legal.specs.Legal.{Legal}
 use Rattle.legal.specs.Systems.{knotted}
-use Rattle.rotation.specs.Pairs.{withPair}
-use Rattle.rotation.specs.Rotation.{firstForm, rotatedLength, rotated, tooLong, turnedForm, rotatedOr}
+use Rattle.turning.specs.Pairs.{withPair}
+use Rattle.turning.specs.Rotation.{firstForm, rotatedLength, rotated, tooLong, turnedForm, rotatedOr}
 use Rattle.search.specs.Search.{Search, halved, stops, shorter, turn, begun, searchFrom, searched}
 use Rattle.search.specs.Halved.{halved-below, halved-small}
 use Rattle.search.specs.Good.{Good, first-good, rotated-good}

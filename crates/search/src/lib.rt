@@ -49,7 +49,7 @@ pub fn search_form(form: Form, count: u16, size: u16) -> Found
     requires { ⌜ WellFormed form × (knotted (loopOf form) ≡ false) ⌝ }
     ensures { λ r. ⌜ (r .form ≡ searched form count size .best) × (r .rotations ≡ searched form count size .rotations) ⌝ }
 {
-    let mut now = rotation::first_form(form);
+    let mut now = turning::first_form(form);
     let mut best = now;
     let mut steps = size;
     let mut rotations: u32 = 0;
@@ -58,7 +58,7 @@ pub fn search_form(form: Form, count: u16, size: u16) -> Found
         if steps == 0 {
             break;
         }
-        let turned = rotation::rotate_form(now, steps);
+        let turned = turning::rotate_form(now, steps);
         if 512 < turned.length {
             break;
         }

@@ -5,7 +5,7 @@ use native.Mathlib.Omega.{arith}
 use borrow.Author.Tests.{not-true, not-false}
 use borrow.Author.Needs.{needs}
 use Rattle.record.specs.Read.{read-good}
-use Rattle.rotation.specs.Rotation.{firstForm}
+use Rattle.turning.specs.Rotation.{firstForm}
 use Rattle.rotation.specs.Scheduling.{firstAsked, unturned}
 use Rattle.rotation.proofs.Entries.{entry-unread, plan-taken, entry-planned, first-writes}
 use Rattle.rotation.proofs.first.Statement.{statement}

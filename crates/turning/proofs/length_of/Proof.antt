@@ -1,13 +1,13 @@
--- `rotation::length_of` meets its contract: the last step of the nodes passed is kept.
+-- `turning::length_of` meets its contract: the last step of the nodes passed is kept.
 -- Assumes nothing.
 use mathlib.Core.Path.{_≡_, _∙_}
 use mathlib.Core.Logic.{⊎-elim}
 use Prim.Native.Nat.{_≤_, _-_}
 use native.Mathlib.Omega.{arith}
 use borrow.Author.Needs.{needs}
-use Rattle.rotation.proofs.Laws.{Working, working-of, lastOf, last-none, last-more, last-all}
-use Rattle.rotation.proofs.length_of.Statement.{statement}
-use Rattle.rotation.proofs.length_of.Tie as tie
+use Rattle.turning.proofs.Laws.{Working, working-of, lastOf, last-none, last-more, last-all}
+use Rattle.turning.proofs.length_of.Statement.{statement}
+use Rattle.turning.proofs.length_of.Tie as tie
 
 abbrev Inv-loop : tie.InvT-loop
 Inv-loop form start last₀ v₀ v-end last v = (v ≤ form .nodes) × (last ≡ lastOf form start v)

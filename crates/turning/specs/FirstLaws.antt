@@ -34,9 +34,9 @@ use Rattle.list_rule.specs.Kept.{fill-length}
 use Rattle.list_rule.specs.Ends.{length-ends}
 use Rattle.list_rule.specs.Filling.{Filled, staffed-form}
 use Rattle.list_rule.specs.FirstLegal.{unretimed, firstStarts, firstPair, first-filled, first-length, first-legal}
-use Rattle.list_rule.specs.TurnedLegal.{rule-past}
-use Rattle.rotation.specs.Pairs.{bodyStep, withPair}
-use Rattle.rotation.specs.Rotation.{firstForm}
+use Rattle.turning.specs.TurnedLegal.{rule-past}
+use Rattle.turning.specs.Pairs.{bodyStep, withPair}
+use Rattle.turning.specs.Rotation.{firstForm}
 
 -- a table of numbers as steps
 pub step-at : (s : List ℕ) (v : ℕ) → getD (map bodyStep s) v noStep .0 ≡ getD s v 0

@@ -22,10 +22,10 @@ use Rattle.list_rule.specs.Order.{insert, orderOf}
 use Rattle.list_rule.specs.Rule.{uses, inUse, free, blocks, ready, place, fillStep, allPlaced, fillFrom, listRule, lengthOf}
 use Rattle.list_rule.specs.FirstLegal.{firstStarts}
 use Rattle.list_rule.specs.Tables.{numbersOf, startsOf}
-use Rattle.list_rule.specs.Turned.{gainedBy, droppedBy}
-use Rattle.list_rule.specs.TurnedLegal.{turnedStarts}
-use Rattle.rotation.specs.Pairs.{withPair}
-use Rattle.rotation.specs.Rotation.{firstForm, rotatedStarts, rotatedLength, rotated, tooLong}
+use Rattle.turning.specs.Turned.{gainedBy, droppedBy}
+use Rattle.turning.specs.TurnedLegal.{turnedStarts}
+use Rattle.turning.specs.Pairs.{withPair}
+use Rattle.turning.specs.Rotation.{firstForm, rotatedStarts, rotatedLength, rotated, tooLong}
 
 -- class 0 of latency 1, class 1 of latency 2; a multiplication, then two additions, round with two delays
 unfoldable pub smallForm : Form

@@ -11,10 +11,10 @@ use Rattle.legal.specs.Loop.{plain, loopOf, pairOf}
 use Rattle.fit.specs.Retimed.{retimings}
 use Rattle.list_rule.specs.Rule.{startAt, lengthOf}
 use Rattle.list_rule.specs.FirstLegal.{firstStarts}
-use Rattle.list_rule.specs.Turned.{gainedBy}
-use Rattle.list_rule.specs.TurnedLegal.{turnedStarts}
+use Rattle.turning.specs.Turned.{gainedBy}
+use Rattle.turning.specs.TurnedLegal.{turnedStarts}
 use Rattle.list_rule.specs.Tables.{startsOf}
-use Rattle.rotation.specs.Pairs.{withPair}
+use Rattle.turning.specs.Pairs.{withPair}
 
 -- the list rule with all retimings 0
 unfoldable pub firstForm : Form → Form

@@ -1,12 +1,12 @@
--- `rotation::dropped` meets its contract: the starts passed are lowered.
+-- `turning::dropped` meets its contract: the starts passed are lowered.
 -- Assumes nothing.
 use Prim.Native.Nat.{_≤_, _-_}
 use native.Mathlib.Omega.{arith}
 use borrow.Author.Needs.{needs}
 use Rattle.list_rule.proofs.Laws.{tests}
-use Rattle.rotation.proofs.Turns.{Lowered, lowered-none, lowered-more, lowered-all}
-use Rattle.rotation.proofs.dropped.Statement.{statement}
-use Rattle.rotation.proofs.dropped.Tie as tie
+use Rattle.turning.proofs.Turns.{Lowered, lowered-none, lowered-more, lowered-all}
+use Rattle.turning.proofs.dropped.Statement.{statement}
+use Rattle.turning.proofs.dropped.Tie as tie
 
 abbrev Inv-loop : tie.InvT-loop
 Inv-loop steps start lower₀ v₀ lower v = (v ≤ 64) × Lowered start steps v lower

@@ -1,11 +1,11 @@
--- `rotation::first_form` meets its contract: the list rule from a form without a pair.
+-- `turning::first_form` meets its contract: the list rule from a form without a pair.
 -- Assumes nothing.
 use mathlib.Core.Path.{_≡_}
 use borrow.Author.Needs.{needs}
 use Rattle.list_rule.specs.Tables.{numbersOf}
-use Rattle.rotation.proofs.Firsts.{bareForm, weighs, bare-well-formed, bare-ends, first-starts-soon, first-is}
-use Rattle.rotation.proofs.first_form.Statement.{statement}
-use Rattle.rotation.proofs.first_form.Tie as tie
+use Rattle.turning.proofs.Firsts.{bareForm, weighs, bare-well-formed, bare-ends, first-starts-soon, first-is}
+use Rattle.turning.proofs.first_form.Statement.{statement}
+use Rattle.turning.proofs.first_form.Tie as tie
 
 bare : (c : tie.After-with-pair) → c .with-pair .result ≡ bareForm (c .before .args .form)
 unfolding bareForm numbersOf

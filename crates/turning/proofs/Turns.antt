@@ -17,9 +17,9 @@ use Rattle.form.specs.Places.{noStep, startOf, retimingOf}
 use Rattle.form.specs.Ranges.{WellFormed}
 use Rattle.legal.specs.Loop.{pairOf}
 use Rattle.list_rule.specs.Tables.{numbersOf}
-use Rattle.list_rule.specs.Turned.{gainedBy, droppedBy, dropped-at}
+use Rattle.turning.specs.Turned.{gainedBy, droppedBy, dropped-at}
 use Rattle.list_rule.proofs.Laws.{numbers-length, number-at}
-use Rattle.rotation.specs.Pairs.{bodyStep}
+use Rattle.turning.specs.Pairs.{bodyStep}
 
 -- ---- the starts
 

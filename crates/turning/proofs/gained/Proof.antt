@@ -1,12 +1,12 @@
--- `rotation::gained` meets its contract: the retimings passed are raised where they should be.
+-- `turning::gained` meets its contract: the retimings passed are raised where they should be.
 -- Assumes nothing.
 use Prim.Native.Nat.{_≤_, _-_}
 use native.Mathlib.Omega.{arith}
 use borrow.Author.Needs.{needs}
 use Rattle.list_rule.proofs.Laws.{tests}
-use Rattle.rotation.proofs.Turns.{Gained, gained-none, gained-more, small-retiming}
-use Rattle.rotation.proofs.gained.Statement.{statement}
-use Rattle.rotation.proofs.gained.Tie as tie
+use Rattle.turning.proofs.Turns.{Gained, gained-none, gained-more, small-retiming}
+use Rattle.turning.proofs.gained.Statement.{statement}
+use Rattle.turning.proofs.gained.Tie as tie
 
 abbrev Inv-loop : tie.InvT-loop
 Inv-loop steps form retiming₀ v₀ v-end retiming v = (v ≤ form .nodes) × Gained form steps v retiming

@@ -18,7 +18,7 @@ use Rattle.legal.specs.Loop.{graphOf, loopOf}
 use Rattle.list_rule.specs.Rule.{startAt, lengthOf}
 use Rattle.list_rule.specs.Tables.{numbersOf}
 use Rattle.list_rule.proofs.Laws.{number-at}
-use Rattle.rotation.specs.Pairs.{bodyStep, withPair}
+use Rattle.turning.specs.Pairs.{bodyStep, withPair}
 
 -- ---- the length
 

@@ -1,4 +1,4 @@
--- `rotation::turn_form` meets its contract: the list rule from the starts lowered and the retimings raised.
+-- `turning::turn_form` meets its contract: the list rule from the starts lowered and the retimings raised.
 -- Assumes nothing.
 use mathlib.Core.Path.{_≡_}
 use lib.ListN.{length}
@@ -6,10 +6,10 @@ use borrow.Author.Needs.{needs}
 use Rattle.form.specs.Ranges.{WellFormed}
 use Rattle.list_rule.specs.Tables.{startsOf, Ends}
 use Rattle.list_rule.proofs.Laws.{tests}
-use Rattle.rotation.proofs.Firsts.{weighs}
-use Rattle.rotation.proofs.Rotations.{turn-good, turn-ends, turn-soon, turn-is}
-use Rattle.rotation.proofs.turn_form.Statement.{statement}
-use Rattle.rotation.proofs.turn_form.Tie as tie
+use Rattle.turning.proofs.Firsts.{weighs}
+use Rattle.turning.proofs.Rotations.{turn-good, turn-ends, turn-soon, turn-is}
+use Rattle.turning.proofs.turn_form.Statement.{statement}
+use Rattle.turning.proofs.turn_form.Tie as tie
 
 -- the table of starts has its places
 long : (c : tie.Start) → length (c .args .form .start) ≡ 64

@@ -19,9 +19,9 @@ use Rattle.list_rule.specs.Rule.{startAt, listRule, lengthOf}
 use Rattle.list_rule.specs.Tables.{numbersOf, startsOf, Ends}
 use Rattle.list_rule.specs.FirstLegal.{unretimed, firstStarts}
 use Rattle.list_rule.proofs.Laws.{start-at}
-use Rattle.rotation.specs.Pairs.{withPair}
-use Rattle.rotation.specs.Rotation.{firstForm}
-use Rattle.rotation.specs.FirstLaws.{first-soon}
+use Rattle.turning.specs.Pairs.{withPair}
+use Rattle.turning.specs.Rotation.{firstForm}
+use Rattle.turning.specs.FirstLaws.{first-soon}
 
 -- a form without starts, length and retimings
 unfoldable pub bareForm : Form → Form

@@ -23,15 +23,15 @@ use Rattle.legal.specs.Busy.{spans, busy-plain}
 use Rattle.legal.specs.Limits.{timed}
 use Rattle.legal.specs.Fitted.{Settles, fits-settles, fittedPair, fitted-legal}
 use Rattle.reach.specs.Weight.{tight, weight}
 use Rattle.list_rule.specs.Order.{orderOf}
 use Rattle.list_rule.specs.Rule.{startAt, uses, inUse, place, fillStep, listRule, lengthOf}
 use Rattle.list_rule.specs.Kept.{Keeps, place-ind, fill-ind, fill-keeps, fill-length}
 use Rattle.list_rule.specs.Units.{Kept, uses-told, rule-units, in-use-busy}
 use Rattle.list_rule.specs.Edges.{InTime, rule-in-time}
 use Rattle.list_rule.specs.Ends.{work, work-bound, length-ends}
 use Rattle.list_rule.specs.Filling.{Staffed, Nodes, order-whole, Within, Filled, filled-length}
 use Rattle.list_rule.specs.Placed.{rule-places}
-use Rattle.list_rule.specs.Turned.{gainedBy, droppedBy, dropped-at, turns-or-stays, turned-over, tight-turns, stays-in-time, turned-ranked}
+use Rattle.turning.specs.Turned.{gainedBy, droppedBy, dropped-at, turns-or-stays, turned-over, tight-turns, stays-in-time, turned-ranked}
 
 -- the rule keeps the starts given
 pub rule-keeps : (g : Loop) (r : ℕ → ℕ) (s : List ℕ) → Keeps s (listRule g r s)

@@ -35,11 +35,11 @@ use Rattle.list_rule.specs.Rule.{startAt}
 use Rattle.list_rule.specs.Ends.{length-ends}
 use Rattle.list_rule.specs.Filling.{staffed-form}
 use Rattle.list_rule.specs.Tables.{numbersOf, startsOf}
-use Rattle.list_rule.specs.Turned.{gainedBy, droppedBy, dropped-at}
-use Rattle.list_rule.specs.TurnedLegal.{rule-past, turnedStarts, Tabled, turned-long, turned-filled, turned-length, turned-settles, turned-bodied, turned-unit-rule}
-use Rattle.rotation.specs.Pairs.{bodyStep, withPair}
-use Rattle.rotation.specs.Rotation.{rotatedStarts, rotatedLength, rotated, tooLong}
-use Rattle.rotation.specs.FirstLaws.{step-at}
+use Rattle.turning.specs.Turned.{gainedBy, droppedBy, dropped-at}
+use Rattle.turning.specs.TurnedLegal.{rule-past, turnedStarts, Tabled, turned-long, turned-filled, turned-length, turned-settles, turned-bodied, turned-unit-rule}
+use Rattle.turning.specs.Pairs.{bodyStep, withPair}
+use Rattle.turning.specs.Rotation.{rotatedStarts, rotatedLength, rotated, tooLong}
+use Rattle.turning.specs.FirstLaws.{step-at}
 
 starts-at : (f : Form) (v : ℕ) → startAt (startsOf f) v ≡ startOf f v
 unfolding startsOf numbersOf

@@ -1,11 +1,11 @@
--- `rotation::gain` meets its contract.
+-- `turning::gain` meets its contract.
 -- Assumes nothing.
 use native.Mathlib.Omega.{arith}
 use borrow.Author.Needs.{needs}
 use borrow.Author.Tests.{le-leb, lt-leb}
 use Rattle.list_rule.proofs.Laws.{adds-one, adds-none}
-use Rattle.rotation.proofs.gain.Statement.{statement}
-use Rattle.rotation.proofs.gain.Tie as tie
+use Rattle.turning.proofs.gain.Statement.{statement}
+use Rattle.turning.proofs.gain.Tie as tie
 
 returns : tie.Need-returns
 returns c = omega (arith, adds-one _ (le-leb (c .before .args .start) (c .before .args .steps) (omega arith)))

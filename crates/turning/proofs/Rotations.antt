@@ -25,13 +25,13 @@ use Rattle.list_rule.specs.Rule.{startAt, listRule, lengthOf}
 use Rattle.list_rule.specs.Ends.{length-ends}
 use Rattle.list_rule.specs.Filling.{staffed-form}
 use Rattle.list_rule.specs.Tables.{numbersOf, startsOf, Ends}
-use Rattle.list_rule.specs.Turned.{gainedBy, droppedBy, dropped-at}
-use Rattle.list_rule.specs.TurnedLegal.{turnedStarts, Tabled, turned-filled, turned-length, turned-settles}
+use Rattle.turning.specs.Turned.{gainedBy, droppedBy, dropped-at}
+use Rattle.turning.specs.TurnedLegal.{turnedStarts, Tabled, turned-filled, turned-length, turned-settles}
 use Rattle.list_rule.proofs.Laws.{numbers-length, start-at}
-use Rattle.rotation.specs.Pairs.{bodyStep, withPair}
-use Rattle.rotation.specs.Rotation.{rotatedStarts, rotatedLength, rotated, tooLong, turnedForm, rotatedOr}
-use Rattle.rotation.specs.FirstLaws.{step-at}
-use Rattle.rotation.specs.SameRule.{nodes-same}
+use Rattle.turning.specs.Pairs.{bodyStep, withPair}
+use Rattle.turning.specs.Rotation.{rotatedStarts, rotatedLength, rotated, tooLong, turnedForm, rotatedOr}
+use Rattle.turning.specs.FirstLaws.{step-at}
+use Rattle.turning.specs.SameRule.{nodes-same}
 
 pub steps-there : (s : List ℕ) → numbersOf (map bodyStep s) ≡ s
 unfolding numbersOf

@@ -1,13 +1,13 @@
--- `rotation::rotate_form` meets its contract: the form turned, and where it is not too long the retiming fitted afresh.
+-- `turning::rotate_form` meets its contract: the form turned, and where it is not too long the retiming fitted afresh.
 -- Assumes nothing.
 use mathlib.Core.Path.{_≡_}
 use native.Mathlib.Omega.{arith}
 use lib.ListN.{length}
 use borrow.Author.Needs.{needs}
 use Rattle.list_rule.proofs.Laws.{tests}
-use Rattle.rotation.proofs.Rotations.{rotate-long, rotate-good, rotate-is}
-use Rattle.rotation.proofs.rotate_form.Statement.{statement}
-use Rattle.rotation.proofs.rotate_form.Tie as tie
+use Rattle.turning.proofs.Rotations.{rotate-long, rotate-good, rotate-is}
+use Rattle.turning.proofs.rotate_form.Statement.{statement}
+use Rattle.turning.proofs.rotate_form.Tie as tie
 
 -- the table of starts has its places
 long : (c : tie.Start) → length (c .args .form .start) ≡ 64

@@ -1,0 +1,4 @@
+pub mod Laws
+pub mod Firsts
+pub mod Turns
+pub mod Rotations
