@@ -120,14 +120,14 @@ module _ (l s h q gap : ℕ) (from : 1 ≤ s) (to : s ≤ l) (one : 1 ≤ q) (wi
   closed : held l s h q ≡ (h + l - 1 - gap) / l
   closed = held-closed l s q from to one within h ∙ ap (λ (x : ℕ). (h + l - 1 - x) / l) (sym is)
 
-  small : gap < l
-  small = omega (arith, mod-lt (q + l - s) {m = l} (omega arith))
+  pub gap-small : gap < l
+  gap-small = omega (arith, mod-lt (q + l - s) {m = l} (omega arith))
 
   pub held-zero : h ≤ gap → 0 ≡ held l s h q
-  held-zero le = sym (closed ∙ div-eq-of-lt {n = h + l - 1 - gap} {m = l} (omega (arith, small)))
+  held-zero le = sym (closed ∙ div-eq-of-lt {n = h + l - 1 - gap} {m = l} (omega (arith, gap-small)))
 
   more : (x r : ℕ) → x * l + r + 1 + gap ≡ h → r < l → held l s h q ≡ 1 + x
-  more x r e below = closed ∙ divided (1 + x) l r (h + l - 1 - gap) below (omega (arith, small, add-mul 1 x l)) .0
+  more x r e below = closed ∙ divided (1 + x) l r (h + l - 1 - gap) below (omega (arith, gap-small, add-mul 1 x l)) .0
 
   pub held-once : gap < h → h ≤ l → 1 ≡ held l s h q
   held-once lt le = sym (more 0 (h - 1 - gap) (omega arith) (omega arith))

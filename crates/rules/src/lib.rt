@@ -75,13 +75,13 @@ fn held_in(length: u16, start: u16, hold: u8, step: u16) -> u16
 {
     let steps = hold as u16;
     let gap = gap_of(length, start, step);
-    if steps <= gap {
-        return 0;
+    if length < steps {
+        return 1 + (steps - 1 - gap) / length;
     }
-    if steps <= length {
+    if gap < steps {
         return 1;
     }
-    1 + (steps - 1 - gap) / length
+    0
 }
 
 // The same of an operation on class `kind`, which holds no unit of another class.
@@ -89,10 +89,12 @@ fn held_on(length: u16, kind: u8, start: u16, class: u8, hold: u8, step: u16) ->
     requires { ⌜ (1 ≤ start) × (start ≤ length) × (1 ≤ step) × (step ≤ length) ⌝ }
     ensures { λ r. ⌜ (r ≡ heldOn length kind start class hold step) × (r ≤ 255) ⌝ }
 {
+    // before the test, so that the loop above takes nodes several at a time
+    let held = held_in(length, start, hold, step);
     if kind != class {
         return 0;
     }
-    held_in(length, start, hold, step)
+    held
 }
 
 // How often the nodes hold a unit of `class` in `step`.
