@@ -1,10 +1,10 @@
 -- Tables of edges among m nodes, read as a system of n nodes: its walks are the same.
 -- So rows of 64 places serve every number of nodes up to 64.
 -- Assumes nothing.
-use mathlib.Core.Path.{_≡_, refl}
+use mathlib.Core.Path.{refl}
 use mathlib.Core.List.{List, [], _∷_}
 use Prim.Native.Nat.{ℕ, _≤_, _<_}
-use lib.ListN.{length, getD, take, length-take}
+use lib.ListN.{length, take, length-take}
 use native.Mathlib.Omega.{arith}
 use native.Mathlib.Decide.{decLe}
 use Rattle.answer.specs.declared.Cycle.{Cycle}

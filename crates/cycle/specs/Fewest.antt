@@ -3,7 +3,7 @@
 -- Assumes nothing.
 use mathlib.Core.Path.{_≡_, sym, _∙_, subst}
 use mathlib.Core.List.{List, [], _∷_}
-use Prim.Native.Nat.{ℕ, zero, suc, _-_, _≤_, _<_}
+use Prim.Native.Nat.{ℕ, zero, suc, _≤_, _<_}
 use lib.ListN.{length}
 use native.Mathlib.Omega.{arith}
 use native.Mathlib.Decide.{decLe}
@@ -11,7 +11,7 @@ use native.Mathlib.Nat.{not-suc-le-zero}
 use Rattle.lists.specs.Fold.{sumOf}
 use Rattle.lists.specs.Pigeon.{pigeon, Twice}
 use Rattle.system.specs.Graph.{Graph, Joined, Walk, stop}
-use Rattle.system.specs.System.{System, gains, costs, LosingWalk, Shortest}
+use Rattle.system.specs.System.{System, gains, costs, LosingWalk, FewestEdges}
 use Rattle.system.specs.Walks.{node, node-in}
 use Rattle.system.specs.Shorter.{node-stop, shorter, losing-some}
 
@@ -23,7 +23,7 @@ losing-from s j (e ∷ es) w = omega (arith, j .tails e (w .closed .0), w .close
 
 -- a losing closed walk with the fewest edges of all is a cycle
 pub fewest-is-cycle : (s : System) (es : List ℕ) → LosingWalk s es
-    → ((fs : List ℕ) → LosingWalk s fs → length es ≤ length fs) → Shortest s es
+    → ((fs : List ℕ) → LosingWalk s fs → length es ≤ length fs) → FewestEdges s es
 fewest-is-cycle s es w fewest =
     let some : 0 < length es = losing-some s es w in
     let at : (i : ℕ) → i < length es → node (s .graph) (w .from) es i ≡ stop (s .graph) es i =
@@ -42,12 +42,12 @@ fewest-is-cycle s es w fewest =
       fewest = fewest;
     }
 
-pub record Within (s : System) : Type 0 where
+pub record FewEdges (s : System) : Type 0 where
   pub walk : List ℕ
   pub losing : LosingWalk s walk
   pub few : length walk ≤ s .graph .nodes
 
-within : (s : System) → Joined (s .graph) → (n : ℕ) (es : List ℕ) → length es ≤ n → LosingWalk s es → Within s
+within : (s : System) → Joined (s .graph) → (n : ℕ) (es : List ℕ) → length es ≤ n → LosingWalk s es → FewEdges s
 within s j zero es l w = absurd (omega (arith, losing-some s es w))
 within s j (suc n) es l w =
     elim (decLe (length es) (s .graph .nodes)) [
@@ -61,5 +61,5 @@ within s j (suc n) es l w =
     ]
 
 -- where any closed walk loses, one with no more edges than nodes does
-pub losing-within : (s : System) → Joined (s .graph) → (es : List ℕ) → LosingWalk s es → Within s
+pub losing-within : (s : System) → Joined (s .graph) → (es : List ℕ) → LosingWalk s es → FewEdges s
 losing-within s j es w = within s j (length es) es (omega arith) w

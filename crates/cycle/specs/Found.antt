@@ -12,7 +12,7 @@ use Rattle.answer.specs.declared.Cycle.{Cycle}
 use Rattle.answer.specs.Outcome.{edgesOf}
 use Rattle.answer.specs.Tally.{Tallies}
 use Rattle.system.specs.Graph.{Walk, Joined}
-use Rattle.system.specs.System.{System, systemOf, gains, costs, LosingWalk, Shortest}
+use Rattle.system.specs.System.{System, systemOf, gains, costs, LosingWalk, FewestEdges}
 use Rattle.cycle.specs.Row.{base, Worth, Row, Gives}
 
 -- the system that tables hold, read as one of 64 nodes: a row has a place for each
@@ -58,7 +58,7 @@ pub record ClosedWalk (s : System) (count : ℕ) (r : Cycle) : Type 0 where
 -- a losing cycle with the fewest edges of all losing closed walks, or none where no closed walk loses
 pub record FoundCycle (s : System) (r : Cycle) : Type 0 where
   pub none : r .count ≡ 0 → (es : List ℕ) → LosingWalk s es → ⊥
-  pub some : 0 < r .count → Shortest s (edgesOf r)
+  pub some : 0 < r .count → FewestEdges s (edgesOf r)
   pub few : r .count ≤ s .graph .nodes
   pub tallies : Tallies r
 

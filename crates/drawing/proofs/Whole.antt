@@ -27,7 +27,7 @@ use Rattle.rules.specs.Busy.{StartsIn, seated-form}
 use Rattle.rules.specs.Lowest.{starts-in}
 use Rattle.drawing.specs.Words.{stepWord}
 use Rattle.drawing.specs.Table.{right, classLine, headText, placesText, rowText, headsLine, tableText, drawingOf, drawn, drawnBuffer}
-use Rattle.drawing.specs.Noted.{Noted, Narrow, Tabled}
+use Rattle.drawing.specs.Noted.{Noted, Narrow, TimesTabled}
 
 -- ---- a row
 
@@ -39,19 +39,19 @@ row-put f q n is l at m o p e g h x y z = both l at _ _ m p e h x (both m e _ _ 
 -- ---- a timetable
 
 -- its bounds
-pub tabled-nodes : (t : Timetable) → Tabled t → t .nodes ≤ 64
+pub tabled-nodes : (t : Timetable) → TimesTabled t → t .nodes ≤ 64
 unfolding timesOf
 tabled-nodes t h = rw (h .is) (h .good .nodes .1)
 
-pub tabled-length : (t : Timetable) → Tabled t → t .length ≤ 512
+pub tabled-length : (t : Timetable) → TimesTabled t → t .length ≤ 512
 unfolding timesOf
 tabled-length t h = rw (h .is) (h .good .length)
 
-pub tabled-narrow : (t : Timetable) → Tabled t → Narrow (t .classes) (t .class)
+pub tabled-narrow : (t : Timetable) → TimesTabled t → Narrow (t .classes) (t .class)
 unfolding timesOf
 tabled-narrow t h = rw (h .is) (record { few = h .good .classes .1; units = λ c l. h .good .class c l .units .1 })
 
-pub tabled-starts : (t : Timetable) → Tabled t → t .length ≢ 0 → StartsIn (t .length) (t .start) (t .nodes)
+pub tabled-starts : (t : Timetable) → TimesTabled t → t .length ≢ 0 → StartsIn (t .length) (t .start) (t .nodes)
 unfolding timesOf
 tabled-starts t h n =
     let f : Form = h .form in

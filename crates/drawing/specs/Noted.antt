@@ -25,7 +25,7 @@ pub record Narrow (classes : ℕ) (class : List Class) : Type 0 where
   pub units : (c : ℕ) → c < classes → getD class c noClass .units ≤ 8
 
 -- the timetable of a well-formed form
-pub record Tabled (t : Timetable) : Type 0 where
+pub record TimesTabled (t : Timetable) : Type 0 where
   pub form : Form
   pub good : WellFormed form
   pub is : t ≡ timesOf form

@@ -34,29 +34,8 @@ use Rattle.legal.specs.Legal.{busy, UnitRule}
 use Rattle.legal.specs.Busy.{hold-some, spans, busy-plain}
 use Rattle.legal.specs.Shape.{sound-form, placed-form, plain-form}
 use Rattle.text.specs.Words.{retimingText}
-use Rattle.drawing.specs.Words.{
-  classWord,
-  latencyWord,
-  unitsWord,
-  plainWord,
-  pipelinedWord,
-  stepWord,
-  barWord,
-  freeWord,
-}
-use Rattle.drawing.specs.Table.{
-  blanks,
-  right,
-  classLine,
-  headText,
-  startPlace,
-  heldPlace,
-  placesText,
-  rowText,
-  headsLine,
-  tableText,
-  drawingOf,
-}
+use Rattle.drawing.specs.Words.{classWord, latencyWord, unitsWord, plainWord, pipelinedWord, stepWord, barWord, freeWord}
+use Rattle.drawing.specs.Table.{blanks, right, classLine, headText, startPlace, heldPlace, placesText, rowText, headsLine, tableText, drawingOf}
 
 -- ---- texts and rows
 

@@ -18,16 +18,7 @@ use Rattle.form.specs.Hold.{hold}
 use Rattle.legal.specs.Loop.{loopOf, pairOf}
 use Rattle.legal.specs.Legal.{busy}
 use Rattle.text.specs.Words.{retimingText}
-use Rattle.drawing.specs.Words.{
-  classWord,
-  latencyWord,
-  unitsWord,
-  plainWord,
-  pipelinedWord,
-  stepWord,
-  barWord,
-  freeWord,
-}
+use Rattle.drawing.specs.Words.{classWord, latencyWord, unitsWord, plainWord, pipelinedWord, stepWord, barWord, freeWord}
 
 unfoldable pub blanks : ℕ → List ℕ
 blanks n = rows (λ i. 32 ∷ []) n

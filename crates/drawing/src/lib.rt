@@ -17,7 +17,7 @@ ghost use Rattle.tables.specs.Times.{timesOf};
 ghost use Rattle.drawing.specs.Words.{freeWord};
 ghost use Rattle.drawing.specs.Table.{blanks, right, classLine, headText, startPlace, heldPlace, placesText, rowText, tableText, drawn, drawnBuffer};
 ghost use Rattle.rules.specs.Busy.{StartsIn};
-ghost use Rattle.drawing.specs.Noted.{Noted, Narrow, Tabled};
+ghost use Rattle.drawing.specs.Noted.{Noted, Narrow, TimesTabled};
 use form::Class;
 use form::hold_of;
 use rules::busy_in;
@@ -334,7 +334,7 @@ fn put_row<'a>(
 
 // The rows of the body's steps.
 fn put_rows(out: &mut [u8], at: usize, times: Timetable) -> usize
-    requires { ⌜ (at ≤ 1000) × Tabled times ⌝ }
+    requires { ⌜ (at ≤ 1000) × TimesTabled times ⌝ }
     ensures { λ r. ⌜ (r ≤ at + 1678848) × ((f : Form) → times ≡ timesOf f → Laid (now (out .entry)) at (rows (λ i. rowText f (i + 1)) (f .length)) (now (out .exit)) r) ⌝ }
 {
     let length = times.length;
@@ -416,7 +416,7 @@ fn put_heads(out: &mut [u8], at: usize, classes: u8, class: [Class; 4]) -> usize
 
 // The classes, the heads, then the rows.
 fn put_table(out: &mut [u8], times: Timetable) -> usize
-    requires { ⌜ Tabled times ⌝ }
+    requires { ⌜ TimesTabled times ⌝ }
     ensures { λ r. ⌜ (r ≤ 1700000) × ((f : Form) → times ≡ timesOf f → Laid (now (out .entry)) 0 (tableText f) (now (out .exit)) r) ⌝ }
 {
     let classes = times.classes;

@@ -54,7 +54,7 @@ pub record Outside (s : List ℕ) (c : Cursor) (width low high : ℕ) (kind : Ki
   pub never : (low ≤ numberAt width s (c .at)) × (numberAt width s (c .at) ≤ high) → ⊥
 
 -- what is known of a field once the cursor past it is fine
-pub record Good (s : List ℕ) (c : Cursor) (width low high : ℕ) (t : Taken) : Type 0 where
+pub record GoodField (s : List ℕ) (c : Cursor) (width low high : ℕ) (t : Taken) : Type 0 where
   pub begun : fine (c .refusal) ≡ true
   pub room : c .at + width ≤ length s
   pub at-least : low ≤ t .value
@@ -76,10 +76,10 @@ wrong-refused Retiming at = refl
 
 module _ (s : List ℕ) (c : Cursor) (width low high : ℕ) (kind : Kind) where
   -- a field past which the cursor is fine was taken, and its number is in range
-  pub good : fine (taken s c width low high kind .next .refusal) ≡ true → Good s c width low high (taken s c width low high kind)
+  pub good : fine (taken s c width low high kind .next .refusal) ≡ true → GoodField s c width low high (taken s c width low high kind)
   unfolding taken fine
   good =
-      let P : Taken → Type 0 = λ t. fine (t .next .refusal) ≡ true → Good s c width low high t in
+      let P : Taken → Type 0 = λ t. fine (t .next .refusal) ≡ true → GoodField s c width low high t in
       pick-ind P (fine (c .refusal)) _ _
       (λ f. pick-ind P (ltb (length s) (c .at + width)) _ _ (λ h e. both-ways e refl)
       (λ h. pick-ind P (ltb (numberAt width s (c .at)) low) _ _ (λ l e. both-ways e (wrong-refused kind (c .at)))

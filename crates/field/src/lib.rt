@@ -3,7 +3,7 @@ ghost use mathlib.Core.Path.{_≡_};
 ghost use Prim.Native.Nat.{_+_, _≤_, _<_};
 ghost use lib.ListN.{length};
 ghost use Rattle.field.specs.Number.{numberAt};
-ghost use Rattle.field.specs.Taking.{wrongAt, taken, Took};
+ghost use Rattle.field.specs.Taking.{wrongAt, Took};
 use answer::Refusal;
 
 // What a field belongs to: which refusal it gets where it is out of range.

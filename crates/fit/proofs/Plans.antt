@@ -37,8 +37,8 @@ use Rattle.fit.specs.declared.Fitted.{Fitted}
 use Rattle.fit.specs.Retimed.{withRetiming, fittedForm, StartsFitted}
 use Rattle.fit.specs.Fitting.{fitOf, fitRecord, fitBuffer, RecordFitted}
 use Rattle.fit.specs.declared.Plan.{Plan}
-use Rattle.fit.specs.Planned.{Planned}
-use Rattle.fit.specs.Laws.{Told, bare, knot, unfit, units, fits, past-knots, fit-told, fit-none, fitted-taken, fitted-written}
+use Rattle.fit.specs.Planned.{FitPlanned}
+use Rattle.fit.specs.Laws.{FitTold, bare, knot, unfit, units, fits, past-knots, fit-told, fit-none, fitted-taken, fitted-written}
 
 -- ---- a form
 
@@ -47,7 +47,7 @@ unfolding unitsOf
 units-number g p = pick-ind (λ r. (numberOf r ≢ 12) × (numberOf r ≢ 14)) (leb (overStep g p) (p .length)) _ _ (λ e. (omega arith, omega arith)) (λ e. (omega arith, omega arith))
 
 module _ (f : Form) where
-  pub plan-bare : f .length ≡ 0 → (c : Cycle) → c ≡ noCycle → (rs : List ℕ) → Planned f (record { refusal = Bare; retiming = rs; cycle = c })
+  pub plan-bare : f .length ≡ 0 → (c : Cycle) → c ≡ noCycle → (rs : List ℕ) → FitPlanned f (record { refusal = Bare; retiming = rs; cycle = c })
   unfolding fitOf fine
   plan-bare z c e rs = record {
     refusal = sym (pick-true (eqb (f .length) 0) _ _ (eq-eqb _ _ z));
@@ -56,7 +56,7 @@ module _ (f : Form) where
   }
 
   module _ (n : f .length ≢ 0) (k : Cycle) (found : KnotFound (loopOf f) k) where
-    pub plan-knot : 0 < k .count → (rs : List ℕ) → Planned f (record { refusal = Knot; retiming = rs; cycle = k })
+    pub plan-knot : 0 < k .count → (rs : List ℕ) → FitPlanned f (record { refusal = Knot; retiming = rs; cycle = k })
     unfolding fitOf fine
     plan-knot l rs = record {
       refusal = sym (pick-false (eqb (f .length) 0) _ _ (ne-eqb _ _ n) ∙ pick-true (knotted (loopOf f)) _ _ (found .tied l));
@@ -68,7 +68,7 @@ module _ (f : Form) where
       by-limits : fitOf f ≡ pick (settledOf (limits (loopOf f) (pairOf f)) .settled) (unitsOf (loopOf f) (pairOf f)) NoRetiming
       by-limits = past-knots f n (found .free (omega arith))
 
-      pub plan-unfit : t .fits ≡ false → (rs : List ℕ) → Planned f (record { refusal = NoRetiming; retiming = rs; cycle = t .cycle })
+      pub plan-unfit : t .fits ≡ false → (rs : List ℕ) → FitPlanned f (record { refusal = NoRetiming; retiming = rs; cycle = t .cycle })
       unfolding fine
       plan-unfit b rs = record {
         refusal = sym (by-limits ∙ pick-false _ _ _ (sym (s .fits) ∙ b));
@@ -82,7 +82,7 @@ module _ (f : Form) where
       }
 
       pub plan-fits : t .fits ≡ true → (r : Refusal) → r ≡ unitsOf (loopOf f) (pairOf f)
-          → Planned f (record { refusal = r; retiming = t .retiming; cycle = t .cycle })
+          → FitPlanned f (record { refusal = r; retiming = t .retiming; cycle = t .cycle })
       unfolding fittedForm
       plan-fits b r is =
           let u = units-number (loopOf f) (pairOf f) in
@@ -99,7 +99,7 @@ unfolding pick
 pick-twice true x y = refl
 pick-twice false x y = refl
 
-told-none : (g : Loop) (p : Pair) (r : Refusal) → Told g p r → fine r ≡ true → r ≡ None
+told-none : (g : Loop) (p : Pair) (r : Refusal) → FitTold g p r → fine r ≡ true → r ≡ None
 unfolding fine
 told-none g p r (bare z) e = both-ways e refl
 told-none g p r (knot n es k) e = both-ways e refl
@@ -134,9 +134,9 @@ module _ (s out : List ℕ) where
       read-fine : fine (readForm s .refusal) ≡ true
       read-fine = ap (λ (r : Record). fine (r .refusal)) (sym back) ∙ e
 
-      module _ (y : Plan) (planned : Planned (x .form) y) where
-        plan : Planned (readForm s .form) y
-        plan = subst (λ (r : Record). Planned (r .form) y) back planned
+      module _ (y : Plan) (planned : FitPlanned (x .form) y) where
+        plan : FitPlanned (readForm s .form) y
+        plan = subst (λ (r : Record). FitPlanned (r .form) y) back planned
 
         -- what is refused of the form
         pub fit-refused : fine (y .refusal) ≡ false → RecordFitted s out out (record { refusal = y .refusal; size = 0; cycle = y .cycle })

@@ -108,18 +108,18 @@ module _ (f : Form) (w : WellFormed f) (n : f .length ≢ 0) (q : Settles (loopO
 -- ---- what a fit answers
 
 -- the refusals of a fit, and when each is made
-pub data Told (g : Loop) (p : Pair) : Refusal → Type 0 where
-  bare : p .length ≡ 0 → Told g p Bare
-  knot : p .length ≢ 0 → (es : List ℕ) → Knot g es → Told g p Knotted
-  unfit : p .length ≢ 0 → Free g → ((r : ℕ → ℕ) → Fits g p r → ⊥) → Told g p NoRetiming
-  units : p .length ≢ 0 → Free g → Settles g p → (q c : ℕ) → LowestOver g p q c → Told g p (Units q c)
-  fits : p .length ≢ 0 → Free g → Settles g p → UnitRule g p → Told g p None
+pub data FitTold (g : Loop) (p : Pair) : Refusal → Type 0 where
+  bare : p .length ≡ 0 → FitTold g p Bare
+  knot : p .length ≢ 0 → (es : List ℕ) → Knot g es → FitTold g p Knotted
+  unfit : p .length ≢ 0 → Free g → ((r : ℕ → ℕ) → Fits g p r → ⊥) → FitTold g p NoRetiming
+  units : p .length ≢ 0 → Free g → Settles g p → (q c : ℕ) → LowestOver g p q c → FitTold g p (Units q c)
+  fits : p .length ≢ 0 → Free g → Settles g p → UnitRule g p → FitTold g p None
 
 module _ (g : Loop) (p : Pair) where
-  told-units : p .length ≢ 0 → Free g → Settles g p → Told g p (unitsOf g p)
+  told-units : p .length ≢ 0 → Free g → Settles g p → FitTold g p (unitsOf g p)
   unfolding unitsOf
   told-units n free q =
-      pick-ind (Told g p) (leb (overStep g p) (p .length)) (Units (overStep g p) (overClass g p (overStep g p))) None
+      pick-ind (FitTold g p) (leb (overStep g p) (p .length)) (Units (overStep g p) (overClass g p (overStep g p))) None
       (λ t. units n free q _ _ (over-lowest g p (leb-true _ _ t)))
       (λ t. fits n free q (over-none g p (leb-false _ _ t)))
 
@@ -136,19 +136,19 @@ module _ (g : Loop) (p : Pair) where
   none-is u =
       pick-false (leb (overStep g p) (p .length)) (Units (overStep g p) (overClass g p (overStep g p))) None (lt-leb (overStep g p) (p .length) (omega (arith, kept-over g p u)))
 
-  of-bare : Told g p Bare → p .length ≡ 0
+  of-bare : FitTold g p Bare → p .length ≡ 0
   of-bare (bare z) = z
 
-  of-knot : Told g p Knotted → (p .length ≢ 0) × ((es : List ℕ) × Knot g es)
+  of-knot : FitTold g p Knotted → (p .length ≢ 0) × ((es : List ℕ) × Knot g es)
   of-knot (knot n es k) = (n, (es, k))
 
-  of-unfit : Told g p NoRetiming → (p .length ≢ 0) × Free g × ((r : ℕ → ℕ) → Fits g p r → ⊥)
+  of-unfit : FitTold g p NoRetiming → (p .length ≢ 0) × Free g × ((r : ℕ → ℕ) → Fits g p r → ⊥)
   of-unfit (unfit n free none) = (n, free, none)
 
-  of-units : (q c : ℕ) → Told g p (Units q c) → (p .length ≢ 0) × Free g × Settles g p × LowestOver g p q c
+  of-units : (q c : ℕ) → FitTold g p (Units q c) → (p .length ≢ 0) × Free g × Settles g p × LowestOver g p q c
   of-units q c (units n free s a b t) = (n, free, s, t)
 
-  of-fits : Told g p None → (p .length ≢ 0) × Free g × Settles g p × UnitRule g p
+  of-fits : FitTold g p None → (p .length ≢ 0) × Free g × Settles g p × UnitRule g p
   of-fits (fits n free s u) = (n, free, s, u)
 
 -- with a schedule and no knot it goes by the limits
@@ -159,18 +159,18 @@ past-knots f n k = pick-false _ _ _ (ne-eqb _ _ n) ∙ pick-false _ _ _ k
 
 module _ (f : Form) (w : WellFormed f) where
   settles-or-not : (b : Bool) → settledOf (limits (loopOf f) (pairOf f)) .settled ≡ b → f .length ≢ 0 → Free (loopOf f)
-      → Told (loopOf f) (pairOf f) (pick b (unitsOf (loopOf f) (pairOf f)) NoRetiming)
+      → FitTold (loopOf f) (pairOf f) (pick b (unitsOf (loopOf f) (pairOf f)) NoRetiming)
   unfolding pick pairOf
   settles-or-not true q n free = told-units (loopOf f) (pairOf f) n free q
   settles-or-not false q n free = unfit n free (unsettled-unfit (loopOf f) (pairOf f) (sound-form f w) q)
 
   -- what a fit answers is so
-  pub fit-told : Told (loopOf f) (pairOf f) (fitOf f)
+  pub fit-told : FitTold (loopOf f) (pairOf f) (fitOf f)
   unfolding fitOf pairOf
   fit-told =
-      pick-ind (Told (loopOf f) (pairOf f)) (eqb (f .length) 0) Bare _
+      pick-ind (FitTold (loopOf f) (pairOf f)) (eqb (f .length) 0) Bare _
       (λ z. bare (eqb-true _ _ z))
-      (λ n. pick-ind (Told (loopOf f) (pairOf f)) (knotted (loopOf f)) Knotted _
+      (λ n. pick-ind (FitTold (loopOf f) (pairOf f)) (knotted (loopOf f)) Knotted _
       (λ k. let t = knotted-knot (loopOf f) (sound-form f w) k in knot (eqb-false _ _ n) (t .0) (t .1))
       (λ k. settles-or-not _ refl (eqb-false _ _ n) (unknotted-free (loopOf f) k)))
 
@@ -182,7 +182,7 @@ module _ (f : Form) (w : WellFormed f) where
       go false q = q
 
   -- and what is so it answers
-  pub fit-is : (r : Refusal) → Told (loopOf f) (pairOf f) r → fitOf f ≡ r
+  pub fit-is : (r : Refusal) → FitTold (loopOf f) (pairOf f) r → fitOf f ≡ r
   unfolding fitOf pairOf
   fit-is r (bare z) = pick-true _ _ _ (eq-eqb _ _ z)
   fit-is r (knot n es k) = pick-false _ _ _ (ne-eqb _ _ n) ∙ pick-true _ _ _ (knot-knotted (loopOf f) es k)
@@ -190,8 +190,8 @@ module _ (f : Form) (w : WellFormed f) where
   fit-is r (units n free s q c t) = past-knots f n (free-unknotted (loopOf f) (sound-form f w) free) ∙ pick-true _ _ _ s ∙ units-is (loopOf f) (pairOf f) q c t
   fit-is r (fits n free s u) = past-knots f n (free-unknotted (loopOf f) (sound-form f w) free) ∙ pick-true _ _ _ s ∙ none-is (loopOf f) (pairOf f) u
 
-  told : (r : Refusal) → fitOf f ≡ r → Told (loopOf f) (pairOf f) r
-  told r e = subst (Told (loopOf f) (pairOf f)) e fit-told
+  told : (r : Refusal) → fitOf f ≡ r → FitTold (loopOf f) (pairOf f) r
+  told r e = subst (FitTold (loopOf f) (pairOf f)) e fit-told
 
   -- Bare: the form has no schedule
   pub fit-bare : fitOf f ≡ Bare → f .length ≡ 0

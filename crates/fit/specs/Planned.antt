@@ -13,7 +13,7 @@ use Rattle.fit.specs.declared.Fitted.{Fitted}
 use Rattle.fit.specs.Retimed.{withRetiming, fittedForm}
 use Rattle.fit.specs.Fitting.{fitOf}
 
-pub record Planned (f : Form) (r : Plan) : Type 0 where
+pub record FitPlanned (f : Form) (r : Plan) : Type 0 where
   pub refusal : r .refusal ≡ fitOf f
   pub form : fine (r .refusal) ≡ true → withRetiming f (r .retiming) ≡ fittedForm f
   pub handed : Handed (loopOf f) (pairOf f) (r .refusal) (r .cycle)

@@ -1,18 +1,18 @@
 -- The retiming found as a list: it fits, is of least depth and node by node the largest of those.
 -- Assumes nothing.
 use mathlib.Core.Path.{_≡_, _∙_}
-use Prim.Native.Nat.{ℕ, _-_, _*_, _≤_, _<_}
+use Prim.Native.Nat.{ℕ, _*_, _≤_, _<_}
 use native.Mathlib.Decide.{decLt}
 use native.Mathlib.Omega.{arith}
 use lib.ListN.{length, getD}
 use Rattle.lists.specs.Fold.{top, top-over, top-attained}
 use Rattle.lists.specs.Filled.{filled-at, filled-past, filled-length}
-use Rattle.legal.specs.Loop.{Loop, Pair, reach}
+use Rattle.legal.specs.Loop.{Loop, Pair, bodies}
 use Rattle.legal.specs.Legal.{UnitRule, Legal, busy}
 use Rattle.legal.specs.Systems.{lateness, Fits}
-use Rattle.legal.specs.Shape.{Sound, Bodied, Within, bodied-within}
+use Rattle.legal.specs.Shape.{Sound, Bodied, WithinBodies, bodied-within}
 use Rattle.legal.specs.Limits.{fit-edges}
-use Rattle.legal.specs.Fitted.{depth, fitted, Settles, fitted-fits, depth-bound, fitted-depth, fitted-zero, fitted-top, fits-depth, fits-under}
+use Rattle.legal.specs.Fitted.{fittedDepth, fitted, Settles, fitted-fits, depth-bound, fitted-depth, fitted-zero, fitted-top, fits-depth, fits-under}
 use Rattle.fit.specs.Retimed.{retimings}
 
 module _ (g : Loop) (p : Pair) where
@@ -35,7 +35,7 @@ module _ (g : Loop) (p : Pair) where
   retimedPair = record { kind = p .kind; start = p .start; length = p .length; retiming = λ v. getD (retimings g p) v 0 }
 
   module _ (s : Sound g) (q : Settles g p) where
-    under-depth : (v : ℕ) → getD (retimings g p) v 0 ≤ depth g p
+    under-depth : (v : ℕ) → getD (retimings g p) v 0 ≤ fittedDepth g p
     under-depth v =
         elim (decLt v (g .graph .nodes)) [
           | yes l ↦ omega (arith, retimings-at v l, fitted-depth g p s q v)
@@ -43,14 +43,14 @@ module _ (g : Loop) (p : Pair) where
         ]
 
     -- the largest of them is the depth
-    pub retimings-top : top (retimings g p) ≡ depth g p
+    pub retimings-top : top (retimings g p) ≡ fittedDepth g p
     retimings-top =
         let t = fitted-top g p s q in
         let a = top-attained (retimings g p) (omega (arith, retimings-length (s .few))) in
         omega (arith, t .2, retimings-at (t .0) (t .1), top-over (retimings g p) (t .0), a .2, under-depth (a .0))
 
     -- none is above 63 for each body that an operation reaches into
-    pub retimings-small : (n : ℕ) → Within g p n → (v : ℕ) → getD (retimings g p) v 0 ≤ 63 * n
+    pub retimings-small : (n : ℕ) → WithinBodies g p n → (v : ℕ) → getD (retimings g p) v 0 ≤ 63 * n
     retimings-small n b v = omega (arith, under-depth v, depth-bound g p s q n b)
 
     -- the smallest is 0
@@ -78,8 +78,8 @@ module _ (g : Loop) (p : Pair) where
         record {
           steps = steps;
           body = body;
-          retimings = λ v l. retimings-small (reach (p .kind)) (bodied-within g p s b) v;
+          retimings = λ v l. retimings-small (bodies (p .kind)) (bodied-within g p s b) v;
           least = retimings-zero;
-          edges = fit-edges g retimedPair s (reach (p .kind)) (bodied-within g retimedPair s body) retimings-fit;
+          edges = fit-edges g retimedPair s (bodies (p .kind)) (bodied-within g retimedPair s body) retimings-fit;
           units = units;
         }

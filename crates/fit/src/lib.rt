@@ -16,14 +16,15 @@ ghost use Rattle.rules.specs.Busy.{StartsIn};
 ghost use Rattle.reader.specs.Reading.{readForm};
 ghost use Rattle.writer.specs.Layout.{layout};
 ghost use Rattle.writer.specs.Writing.{bufferAfter};
-ghost use Rattle.fit.specs.Tables.{Limited, turnedOver, Tabled};
+ghost use Rattle.fit.specs.Tables.{Limited, turnedOver, LimitsTabled};
 ghost use Rattle.fit.specs.Retimed.{withRetiming, StartsFitted, TablesFitted};
-ghost use Rattle.fit.specs.Planned.{Planned, fittedAnswer};
+ghost use Rattle.fit.specs.Planned.{FitPlanned, fittedAnswer};
 ghost use Rattle.fit.specs.Fitting.{RecordFitted};
 use answer::Cycle;
 use answer::Refusal;
 use form::Form;
 use tables::Timetable;
+use widths::wide;
 
 // The retiming where one fits, all 0 else; the cycle that proves that none does.
 pub struct Fitting {
@@ -50,13 +51,6 @@ struct Plan {
 struct Limits {
     gains: [u16; 256],
     costs: [u16; 256],
-}
-
-// A byte as a u16; the bound spares each use a proof.
-fn wide(x: u8) -> u16
-    ensures { λ r. ⌜ (r ≡ x) × (r < 256) ⌝ }
-{
-    x as u16
 }
 
 // How many bodies after the one in which a node starts at `start` another can start at `next`: what it is late by, over the length, rounded up.
@@ -143,7 +137,7 @@ fn fit_limits<'a>(
     to: &'a [u8; 256],
     limits: Limits,
 ) -> Fitting
-    requires { ⌜ Tabled nodes edges (now from) (now to) (limits .gains) (limits .costs) ⌝ }
+    requires { ⌜ LimitsTabled nodes edges (now from) (now to) (limits .gains) (limits .costs) ⌝ }
     ensures { λ r. ⌜ TablesFitted nodes edges (now (from .entry)) (now (to .entry)) (limits .gains) (limits .costs) r ⌝ }
 {
     let solution = solve::solve(nodes, edges, from, to, &limits.gains, &limits.costs);
@@ -194,7 +188,7 @@ fn plan_tables<'a>(
     times: Timetable,
 ) -> Plan
     requires { ⌜ ((f : Form) × Lent f edges (now from) (now to) (now delays) times) ⌝ }
-    ensures { λ r. ⌜ ((f : Form) → Lent f edges (now (from .entry)) (now (to .entry)) (now (delays .entry)) times → Planned f r) ⌝ }
+    ensures { λ r. ⌜ ((f : Form) → Lent f edges (now (from .entry)) (now (to .entry)) (now (delays .entry)) times → FitPlanned f r) ⌝ }
 {
     if times.length == 0 {
         return unplanned(Refusal::Bare, Cycle::none());

@@ -34,7 +34,7 @@ use Rattle.floor_part.specs.declared.Part.{Part}
 use Rattle.floor_part.specs.declared.Part.the-variants as part
 use Rattle.floor.specs.declared.Floored.{Floored}
 use Rattle.floor.specs.Parts.{latencyPart, unitsPart, unitsParts, cyclePart, floorLength}
-use Rattle.floor.specs.Least.{enough, short-less, cycle-one, cycle-512}
+use Rattle.floor.specs.Least.{enough, short-less, cycle-512}
 use Rattle.floor.specs.Tables.{Measured}
 use Rattle.floor_part.specs.Numbers.{partNumber}
 use Rattle.floor.specs.Floor.{partOf, floorRefusal, FloorCycle, FormFloored, floorRecord, RecordFloored}

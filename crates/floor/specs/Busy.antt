@@ -14,7 +14,6 @@ use Rattle.form.specs.Hold.{hold}
 use Rattle.legal.specs.Loop.{Loop, Pair, runsOn}
 use Rattle.legal.specs.Held.{held, held-total}
 use Rattle.legal.specs.Legal.{busy, UnitRule, Legal}
-use Rattle.legal.specs.Shape.{Sound}
 use Rattle.floor.specs.Parts.{nodesOn, unitsPart, unitsParts}
 
 -- what fits on so many units in so many steps takes no more steps than these

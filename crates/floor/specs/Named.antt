@@ -3,7 +3,6 @@
 use mathlib.Core.Path.{_≡_, ap, subst, _∙_}
 use mathlib.Core.Bool.{false}
 use mathlib.Core.Logic.{_≢_}
-use mathlib.Core.List.{List}
 use Prim.Native.Nat.{ℕ, _-_, _≤_, _<_}
 use native.Mathlib.Omega.{arith}
 use native.Mathlib.Decide.{decLt}
@@ -12,14 +11,12 @@ use lib.Dec.{eqb}
 use Rattle.lists.specs.Pick.{pick-ind, pick-true, pick-false}
 use Rattle.lists.specs.Sums.{top-each, top-under}
 use Rattle.lists.specs.First.{firstFrom, first-is, first-only}
-use Rattle.system.specs.System.{Losing}
 use Rattle.legal.specs.Loop.{Loop}
-use Rattle.legal.specs.Systems.{paces}
 use Rattle.legal.specs.Shape.{Sound}
 use Rattle.floor_part.specs.declared.Part.{Part}
 use Rattle.floor_part.specs.declared.Part.the-variants as part
 use Rattle.floor.specs.Parts.{latencyPart, unitsPart, unitsParts, cyclePart, floorLength}
-use Rattle.floor.specs.Least.{enough, cycle-one, cycle-below, short-losing}
+use Rattle.floor.specs.Least.{enough, cycle-one, cycle-below}
 use Rattle.floor.specs.Bounds.{latency-one}
 use Rattle.floor.specs.Floor.{partOf}
 
@@ -108,6 +105,3 @@ module _ (g : Loop) where
     floor-short =
         let t = told-cycle (subst (Attains g) q named) in
         cycle-below g (floorLength g - 1) (omega (arith, cycle-two)) (omega (arith, cycle-two, t .1))
-
-    pub floor-losing : (es : List ℕ) × Losing (paces g (floorLength g - 1)) es
-    floor-losing = short-losing g s (floorLength g - 1) floor-short

@@ -12,7 +12,7 @@ ghost use Rattle.form.specs.Hold.{hold};
 ghost use Rattle.legal.specs.Loop.{Loop, Pair, loopOf};
 ghost use Rattle.legal.specs.Systems.{knotted, paces};
 ghost use Rattle.tables.specs.Edges.{Told};
-ghost use Rattle.tables.specs.Times.{Sound, Timed};
+ghost use Rattle.tables.specs.Times.{SoundTimes, Timed};
 ghost use Rattle.tables.specs.Lent.{Lent};
 ghost use Rattle.floor.specs.Parts.{cyclePart};
 ghost use Rattle.floor.specs.Least.{enough};
@@ -23,6 +23,7 @@ use answer::Refusal;
 use floor_part::Part;
 use form::Class;
 use tables::Timetable;
+use widths::wide;
 
 // The floor and the part that attains it first; refused, 0 and no part.
 pub struct Floored {
@@ -44,13 +45,6 @@ struct AllParts {
     units: u16,
     class: u8,
     floor: u16,
-}
-
-// A byte as a u16; the bound spares each use a proof.
-fn wide(x: u8) -> u16
-    ensures { λ r. ⌜ (r ≡ x) × (r < 256) ⌝ }
-{
-    x as u16
 }
 
 fn larger(a: u16, b: u16) -> u16
@@ -100,7 +94,7 @@ fn units_part(class: Class, on: u8) -> u16
 
 // The class that needs the most steps.
 fn busiest_class(times: Timetable) -> Busiest
-    requires { ⌜ Sound times ⌝ }
+    requires { ⌜ SoundTimes times ⌝ }
     ensures { λ r. ⌜ ((g : Loop) (p : Pair) → Timed g p times → Busy g (g .classes) (r .part) (r .class)) × (r .part ≤ 512) ⌝ }
 {
     let mut part: u16 = 0;
@@ -253,7 +247,7 @@ fn parts_of<'a>(
     costs: &'a [u16; 256],
     times: Timetable,
 ) -> AllParts
-    requires { ⌜ Edged (times .nodes) edges (now from) (now to) (now delays) × Sound times ⌝ }
+    requires { ⌜ Edged (times .nodes) edges (now from) (now to) (now delays) × SoundTimes times ⌝ }
     ensures { λ r. ⌜ ((g : Loop) (p : Pair) → Paced g (times .nodes) edges (now (from .entry)) (now (to .entry)) (now (delays .entry)) (now (costs .entry)) → Timed g p times → Measured g (r .latency) (r .units) (r .class) (r .floor)) ⌝ }
 {
     let latency = wide(tables::largest(&times.latency, times.nodes));

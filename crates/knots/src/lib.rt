@@ -6,18 +6,12 @@ ghost use Rattle.legal.specs.Loop.{Loop};
 ghost use Rattle.tables.specs.Edges.{Ends, Told};
 ghost use Rattle.knots.specs.Found.{KnotFound, RanksFound};
 use answer::Cycle;
+use widths::wide;
 
 // A knot, or no cycle and then a rank for each node: nodes in their order never read a later one of the same iteration.
 pub struct Ranking {
     pub cycle: Cycle,
     pub rank: [u32; 64],
-}
-
-// A byte as a u16; the bound spares each use a proof.
-fn wide(x: u8) -> u16
-    ensures { λ r. ⌜ (r ≡ x) × (r < 256) ⌝ }
-{
-    x as u16
 }
 
 // What the edges gain: a delay more than any cycle costs, which is 1 for each of 64 edges at most.

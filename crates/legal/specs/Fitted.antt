@@ -10,18 +10,18 @@ use Rattle.system.specs.System.{gains, costs, Losing}
 use Rattle.system.specs.Rounds.{settledOf}
 use Rattle.system.specs.Laws.{values-bound, unsettled-loses}
 use Rattle.system.specs.Turned.{topOf, turnedAt, turned-le, turned-zero, turned-top, turned-turns, least-depth, largest}
-use Rattle.legal.specs.Loop.{reach, Loop, Pair}
+use Rattle.legal.specs.Loop.{bodies, Loop, Pair}
 use Rattle.legal.specs.Legal.{busy, UnitRule, Legal}
 use Rattle.legal.specs.Systems.{lateness, limits, Fits, Impossible}
-use Rattle.legal.specs.Shape.{Sound, Bodied, Within, bodied-within}
+use Rattle.legal.specs.Shape.{Sound, Bodied, WithinBodies, bodied-within}
 use Rattle.legal.specs.Limits.{late-bound, fit-edges}
 use Rattle.legal.specs.Splits.{losing-walk, losing-cycle}
 use Rattle.legal.specs.Balanced.{Balances, balanced-sound, balanced-settles}
 
 module _ (g : Loop) (p : Pair) where
   -- the depth and the retiming of the starts
-  abbrev pub depth : ℕ
-  depth = topOf (limits g p)
+  abbrev pub fittedDepth : ℕ
+  fittedDepth = topOf (limits g p)
 
   abbrev pub fitted : ℕ → ℕ
   fitted = turnedAt (limits g p)
@@ -71,12 +71,12 @@ module _ (g : Loop) (p : Pair) where
     unsettled-unfit q r h = let c = unsettled-impossible q in impossible-unfit (c .0) (c .1) r h
 
     -- any retiming that fits is at least as deep
-    pub fits-depth : (r : ℕ → ℕ) (d : ℕ) → Fits g p r → ((v : ℕ) → v < g .graph .nodes → r v ≤ d) → depth ≤ d
+    pub fits-depth : (r : ℕ → ℕ) (d : ℕ) → Fits g p r → ((v : ℕ) → v < g .graph .nodes → r v ≤ d) → fittedDepth ≤ d
     unfolding limits
     fits-depth r d h under = least-depth (limits g p) (s .few) (s .joined) r d h under (s .some)
 
     -- and of those as deep none is larger at any node
-    pub fits-under : (r : ℕ → ℕ) (d : ℕ) → Fits g p r → ((v : ℕ) → v < g .graph .nodes → r v ≤ d) → d ≡ depth → (v : ℕ) → v < g .graph .nodes → r v ≤ fitted v
+    pub fits-under : (r : ℕ → ℕ) (d : ℕ) → Fits g p r → ((v : ℕ) → v < g .graph .nodes → r v ≤ d) → d ≡ fittedDepth → (v : ℕ) → v < g .graph .nodes → r v ≤ fitted v
     unfolding limits
     fits-under r d h under q v l = largest (limits g p) (s .few) (s .joined) r d h under q v l
 
@@ -96,7 +96,7 @@ module _ (g : Loop) (p : Pair) where
       fitted-fits = turned-turns (limits g p) (s .few) (s .joined) q
 
       -- the depth never exceeds 63 for each body that an operation reaches into
-      pub depth-bound : (n : ℕ) → Within g p n → depth ≤ 63 * n
+      pub depth-bound : (n : ℕ) → WithinBodies g p n → fittedDepth ≤ 63 * n
       unfolding limits turnedAt
       depth-bound n b =
           let z = turned-zero (limits g p) (s .few) (s .some) in
@@ -108,7 +108,7 @@ module _ (g : Loop) (p : Pair) where
           )
 
       -- no node is retimed by more than the depth
-      pub fitted-depth : (v : ℕ) → fitted v ≤ depth
+      pub fitted-depth : (v : ℕ) → fitted v ≤ fittedDepth
       fitted-depth v = turned-le (limits g p) v
 
       -- the smallest retiming is 0
@@ -117,7 +117,7 @@ module _ (g : Loop) (p : Pair) where
       fitted-zero = turned-zero (limits g p) (s .few) (s .some)
 
       -- the largest is the depth
-      pub fitted-top : (v : ℕ) × (v < g .graph .nodes) × (fitted v ≡ depth)
+      pub fitted-top : (v : ℕ) × (v < g .graph .nodes) × (fitted v ≡ fittedDepth)
       unfolding limits
       fitted-top = turned-top (limits g p) (s .few) (s .joined) (s .some) q
 
@@ -129,8 +129,8 @@ module _ (g : Loop) (p : Pair) where
           record {
             steps = steps;
             body = body;
-            retimings = λ v l. omega (arith, fitted-depth v, depth-bound (reach (p .kind)) (bodied-within g p s b));
+            retimings = λ v l. omega (arith, fitted-depth v, depth-bound (bodies (p .kind)) (bodied-within g p s b));
             least = fitted-zero;
-            edges = fit-edges g fittedPair s (reach (p .kind)) (bodied-within g fittedPair s body) fitted-fits;
+            edges = fit-edges g fittedPair s (bodies (p .kind)) (bodied-within g fittedPair s body) fitted-fits;
             units = units;
           }

@@ -17,7 +17,7 @@ use Rattle.system.specs.Laws.{unsettled-loses, loses-unsettled}
 use Rattle.legal.specs.Loop.{Loop, Pair}
 use Rattle.legal.specs.Legal.{Knot}
 use Rattle.legal.specs.Systems.{knots, knotted, lateness, Impossible}
-use Rattle.legal.specs.Shape.{Sound, Within}
+use Rattle.legal.specs.Shape.{Sound, WithinBodies}
 use Rattle.legal.specs.Limits.{late-covers}
 use Rattle.legal.specs.Splits.{losing-cycle, cycle-few}
 
@@ -77,12 +77,12 @@ module _ (g : Loop) where
   climbs : Pair → System
   climbs p = record { graph = g .graph; gain = λ e. p .length * lateness g p e; cost = λ e. 1 }
 
-  starts-climb : (p : Pair) → Sound g → (n : ℕ) → Within g p n → Solves (climbs p) (p .start)
+  starts-climb : (p : Pair) → Sound g → (n : ℕ) → WithinBodies g p n → Solves (climbs p) (p .start)
   unfolding climbs
   starts-climb p s n b e l = omega (arith, s .works _ (s .joined .tails e l), late-covers g p s n b e l)
 
   -- every knot has a negative limit sum, whatever the starts in the body
-  pub knot-impossible : (p : Pair) → Sound g → (n : ℕ) → Within g p n → (es : List ℕ) → Knot g es → Impossible g p es
+  pub knot-impossible : (p : Pair) → Sound g → (n : ℕ) → WithinBodies g p n → (es : List ℕ) → Knot g es → Impossible g p es
   unfolding climbs gains costs
   knot-impossible p s n b es k =
       let c = along (climbs p) (p .start) (starts-climb p s n b) (stop (g .graph) es 0) es (stop (g .graph) es 0) (k .cycle .closed) in

@@ -9,7 +9,7 @@ use Rattle.lists.specs.Span.{span}
 use Rattle.lists.specs.Fold.{sumOf}
 use Rattle.system.specs.Graph.{Cycle}
 use Rattle.form.specs.Hold.{hold}
-use Rattle.legal.specs.Loop.{Loop, Pair, within, reach, runsOn, latency}
+use Rattle.legal.specs.Loop.{Loop, Pair, within, bodies, runsOn, latency}
 use Rattle.legal.specs.Held.{held}
 
 module _ (g : Loop) (p : Pair) where
@@ -40,7 +40,7 @@ module _ (g : Loop) (p : Pair) where
   pub record Legal : Type 0 where
     pub steps : (1 ≤ p .length) × (p .length ≤ 512)
     pub body : (v : ℕ) → v < g .graph .nodes → InBody v
-    pub retimings : (v : ℕ) → v < g .graph .nodes → p .retiming v ≤ 63 * reach (p .kind)
+    pub retimings : (v : ℕ) → v < g .graph .nodes → p .retiming v ≤ 63 * bodies (p .kind)
     pub least : (v : ℕ) × (v < g .graph .nodes) × (p .retiming v ≡ 0)
     pub edges : (e : ℕ) → e < g .graph .edges → EdgeRule e
     pub units : UnitRule

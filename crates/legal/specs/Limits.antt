@@ -9,7 +9,7 @@ use native.Mathlib.Nat.{div-lt-iff-lt-mul, le-of-suc-le-suc, suc-mul, mul-comm, 
 use Rattle.legal.specs.Loop.{plain, Loop, Pair}
 use Rattle.legal.specs.Legal.{finish, EdgeRule}
 use Rattle.legal.specs.Systems.{lateness, Fits}
-use Rattle.legal.specs.Shape.{Sound, Bodied, Within, bodied-within, plain-ends}
+use Rattle.legal.specs.Shape.{Sound, Bodied, WithinBodies, bodied-within, plain-ends}
 
 module _ (g : Loop) (p : Pair) where
   -- all edges keep the edge rule
@@ -20,7 +20,7 @@ module _ (g : Loop) (p : Pair) where
   abbrev pub LimitRule : ℕ → Type 0
   LimitRule e = p .retiming (g .graph .head e) + lateness g p e ≤ p .retiming (g .graph .tail e) + g .delay e
 
-  module _ (s : Sound g) (n : ℕ) (b : Within g p n) (e : ℕ) (l : e < g .graph .edges) where
+  module _ (s : Sound g) (n : ℕ) (b : WithinBodies g p n) (e : ℕ) (l : e < g .graph .edges) where
     -- so many bodies are enough
     pub late-covers : finish g p (g .graph .tail e) ≤ p .start (g .graph .head e) + p .length * lateness g p e
     unfolding lateness
@@ -72,7 +72,7 @@ module _ (g : Loop) (p : Pair) where
         let rv : ℕ = p .retiming (g .graph .head e) in
         omega (arith, late-covers, mul-add L rv (lateness g p e), mul-le-mul-left {m = rv + lateness g p e} {n = ru} L (omega arith))
 
-  module _ (s : Sound g) (n : ℕ) (b : Within g p n) where
+  module _ (s : Sound g) (n : ℕ) (b : WithinBodies g p n) where
     -- where all edges keep the edge rule, the retiming fits the starts
     pub edges-fit : EdgeRules → Fits g p (p .retiming)
     edges-fit h e l = edge-limit s n b e l (h e l)

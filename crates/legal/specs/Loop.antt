@@ -1,9 +1,7 @@
 -- A loop on its board, and a schedule of it: what a form holds, read by number.
 -- Assumes nothing.
 use Prim.Native.Nat.{ℕ}
-use lib.Dec.{eqb}
 use lib.ListN.{getD}
-use Rattle.lists.specs.Pick.{pick}
 use Rattle.system.specs.Graph.{Graph}
 use Rattle.form.specs.declared.Form.{Form}
 use Rattle.form.specs.declared.Class.{Class}
@@ -29,9 +27,9 @@ within plain t = t
 within wrapped t = 1
 
 -- how many bodies an operation reaches into at most
-unfoldable pub reach : Kind → ℕ
-reach plain = 1
-reach wrapped = 8
+unfoldable pub bodies : Kind → ℕ
+bodies plain = 1
+bodies wrapped = 8
 
 -- starts, length and retimings
 pub record Pair : Type 0 where

@@ -10,9 +10,8 @@ use native.Mathlib.Nat.{mul-add, mul-zero}
 use lib.ListN.{length}
 use Rattle.lists.specs.Fold.{sumOf, sum-times}
 use Rattle.system.specs.Graph.{Walk, stop}
-use Rattle.system.specs.System.{Solves, gains, costs, LosingWalk}
+use Rattle.system.specs.System.{gains, costs, LosingWalk}
 use Rattle.system.specs.Rounds.{settledOf}
-use Rattle.system.specs.Laws.{settles-solved}
 use Rattle.legal.specs.Loop.{Loop, Pair, latency}
 use Rattle.legal.specs.Legal.{Legal}
 use Rattle.legal.specs.Systems.{paces}
@@ -65,10 +64,6 @@ module _ (g : Loop) (p : Pair) (h : EdgeRules g p) where
   unfolding paces
   paces-settle s =
       balanced-settles (paces g (p .length)) (p .start) (λ v. p .length * p .retiming v) edges-balance (s .joined) (s .some) (s .few)
-
-  -- and so it has a solution
-  pub paces-solved : Sound g → (y : ℕ → ℕ) × Solves (paces g (p .length)) y
-  paces-solved s = settles-solved (paces g (p .length)) (paces-settle s)
 
   -- where all edges keep the edge rule there is no knot
   pub edges-free : Sound g → Free g

@@ -1,6 +1,6 @@
 -- What the rules refuse of a pair: the lowest edge that breaks the edge rule, else the lowest step, and of it the lowest class, that breaks the unit rule.
 -- Assumes nothing.
-use mathlib.Core.Path.{_≡_, _∙_, ap, subst}
+use mathlib.Core.Path.{_≡_, _∙_, ap}
 use mathlib.Core.Bool.{Bool, true, false}
 use Prim.Native.Nat.{ℕ, _+_, _≤_, _<_}
 use native.Mathlib.Omega.{arith}
@@ -197,14 +197,3 @@ module _ (g : Loop) (p : Pair) where
       rules-units h
       ∙ pick-false (leb (overStep g p) (p .length)) (Units (overStep g p) (overClass g p (overStep g p))) None
       (lt-leb (overStep g p) (p .length) (omega (arith, kept-over u)))
-
-  told-kept : Ruled None → EdgeRules g p × UnitRule g p
-  told-kept (kept h u) = (h, u)
-
-  -- where the rules refuse nothing, all edges keep the edge rule and all steps the unit rule
-  pub rules-kept : rulesOf g p ≡ None → EdgeRules g p × UnitRule g p
-  rules-kept q = told-kept (subst Ruled q ruled)
-
-  -- where both rules are kept, nothing is refused
-  pub kept-rules : EdgeRules g p → UnitRule g p → rulesOf g p ≡ None
-  kept-rules h u = ruled-is None (kept h u)

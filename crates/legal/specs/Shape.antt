@@ -8,7 +8,7 @@ use native.Mathlib.Nat.{pos-of-ne-zero}
 use Rattle.form.specs.declared.Form.{Form}
 use Rattle.form.specs.Ranges.{WellFormed, GoodSchedule}
 use Rattle.system.specs.Graph.{Joined}
-use Rattle.legal.specs.Loop.{Kind, plain, wrapped, within, reach, Loop, Pair, loopOf, pairOf, graphOf, latency}
+use Rattle.legal.specs.Loop.{Kind, plain, wrapped, within, bodies, Loop, Pair, loopOf, pairOf, graphOf, latency}
 use Rattle.legal.specs.Legal.{finish, InBody}
 
 -- a loop of 1 to 64 nodes and up to 256 edges between them, with latencies 1 to 8
@@ -29,7 +29,7 @@ abbrev pub Starting : Loop → Pair → Type 0
 Starting g p = (v : ℕ) → v < g .graph .nodes → (1 ≤ p .start v) × (p .start v ≤ p .length)
 
 -- and its operation ends within so many bodies
-pub record Within (g : Loop) (p : Pair) (n : ℕ) : Type 0 where
+pub record WithinBodies (g : Loop) (p : Pair) (n : ℕ) : Type 0 where
   pub starts : Starting g p
   pub ends : (v : ℕ) → v < g .graph .nodes → finish g p v ≤ n * p .length + 1
 
@@ -37,16 +37,16 @@ pub record Within (g : Loop) (p : Pair) (n : ℕ) : Type 0 where
 pub record Placed (g : Loop) (p : Pair) : Type 0 where
   pub steps : (1 ≤ p .length) × (p .length ≤ 512)
   pub body : Bodied g p
-  pub retimings : (v : ℕ) → v < g .graph .nodes → p .retiming v ≤ 63 * reach (p .kind)
+  pub retimings : (v : ℕ) → v < g .graph .nodes → p .retiming v ≤ 63 * bodies (p .kind)
   pub least : (v : ℕ) × (v < g .graph .nodes) × (p .retiming v ≡ 0)
 
-ends-plain : (k : Kind) (x t l : ℕ) → 1 ≤ t → t ≤ 8 → 1 ≤ x → x + within k t ≤ l + 1 → (x ≤ l) × (x + t ≤ reach k * l + 1)
-unfolding within reach
+ends-plain : (k : Kind) (x t l : ℕ) → 1 ≤ t → t ≤ 8 → 1 ≤ x → x + within k t ≤ l + 1 → (x ≤ l) × (x + t ≤ bodies k * l + 1)
+unfolding within bodies
 ends-plain plain x t l one few some h = (omega arith, omega arith)
 ends-plain wrapped x t l one few some h = (omega arith, omega arith)
 
 -- all that the laws of both kinds need of the starts
-pub bodied-within : (g : Loop) (p : Pair) → Sound g → Bodied g p → Within g p (reach (p .kind))
+pub bodied-within : (g : Loop) (p : Pair) → Sound g → Bodied g p → WithinBodies g p (bodies (p .kind))
 bodied-within g p s b = record {
   starts = λ v l. (b v l .begins, ends-plain (p .kind) _ _ _ (s .works v l) (s .short v l) (b v l .begins) (b v l .ends) .0);
   ends = λ v l. ends-plain (p .kind) _ _ _ (s .works v l) (s .short v l) (b v l .begins) (b v l .ends) .1;
@@ -76,7 +76,7 @@ sound-form f w = record {
 
 -- and, where it has a schedule, starts in the body and retimings of 0 to 63, the smallest being 0
 pub placed-form : (f : Form) → WellFormed f → f .length ≢ 0 → Placed (loopOf f) (pairOf f)
-unfolding loopOf pairOf graphOf within reach
+unfolding loopOf pairOf graphOf within bodies
 placed-form f w n =
     let s : GoodSchedule f = w .schedule n in
     record {
@@ -87,8 +87,8 @@ placed-form f w n =
     }
 
 -- its operations end in the body
-pub within-form : (f : Form) → WellFormed f → f .length ≢ 0 → Within (loopOf f) (pairOf f) 1
-unfolding pairOf reach
+pub within-form : (f : Form) → WellFormed f → f .length ≢ 0 → WithinBodies (loopOf f) (pairOf f) 1
+unfolding pairOf bodies
 within-form f w n = bodied-within (loopOf f) (pairOf f) (sound-form f w) (placed-form f w n .body)
 
 -- a form holds no kind: its pair is plain

@@ -19,7 +19,7 @@ use Rattle.lists.specs.Count.{count-same}
 use Rattle.form.specs.declared.Form.{Form}
 use Rattle.form.specs.declared.BodyStep.{BodyStep}
 use Rattle.form.specs.Places.{noStep, startOf}
-use Rattle.list_rule.specs.Rule.{startAt}
+use Rattle.list_rule.specs.Rule.{startNumber}
 use Rattle.list_rule.specs.Tables.{numbersOf, startsOf}
 
 -- an array of structs stands in the machine as the list of their values
@@ -37,7 +37,7 @@ pub number-at : (s : List BodyStep) (v : ℕ) → getD (numbersOf s) v 0 ≡ get
 unfolding numbersOf
 number-at s v = List·getD-map (λ b. b .0) s v noStep
 
-pub start-at : (f : Form) (v : ℕ) → startOf f v ≡ startAt (startsOf f) v
+pub start-at : (f : Form) (v : ℕ) → startOf f v ≡ startNumber (startsOf f) v
 unfolding startsOf
 start-at f v = sym (number-at (f .start) v)
 

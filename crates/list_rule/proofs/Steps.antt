@@ -23,8 +23,8 @@ use Rattle.tables.specs.declared.Timetable.{Timetable}
 use Rattle.tables.specs.Times.{timesOf}
 use Rattle.reach.specs.Weight.{weight}
 use Rattle.list_rule.specs.Order.{orderOf}
-use Rattle.list_rule.specs.Rule.{startAt, inUse, free, ready, place, fillStep, allPlaced, fillFrom, listRule}
-use Rattle.list_rule.specs.Tables.{numbersOf, startsOf, weightOf, Raised, Used, Waits}
+use Rattle.list_rule.specs.Rule.{startNumber, inUse, free, ready, place, fillStep, allPlaced, fillFrom, listRule}
+use Rattle.list_rule.specs.Tables.{numbersOf, startsOf, weightOf, Raised, Used, WaitsTabled}
 use Rattle.list_rule.proofs.Laws.{both-false, number-at, numbers-length, numbers-set, adds-one, adds-none}
 use Rattle.list_rule.proofs.Units.{classAt, used-put}
 use Rattle.list_rule.proofs.Waits.{ready-is}
@@ -77,7 +77,7 @@ module _ (f : Form) where
         let e : 1024 - p ≡ 0 = omega arith in
         rw e at (s .rest)
 
-    module _ (h : p < 1024) (left : ℕ) (is-left : left ≡ count (λ v. eqb (startAt (numbersOf start) v) 0) (span 0 (f .nodes))) where
+    module _ (h : p < 1024) (left : ℕ) (is-left : left ≡ count (λ v. eqb (startNumber (numbersOf start) v) 0) (span 0 (f .nodes))) where
       more : 1024 - p ≡ suc (1024 - (p + 1))
       more = omega arith
 
@@ -124,10 +124,10 @@ module _ (f : Form) where
       -- a node that is placed, or waits, or finds no unit stays as it is
       pub trying-placed : (getD start node noStep .0 ≡ 0 → ⊥) → Trying order before p (i + 1) start busy
       unfolding place pick
-      trying-placed h = trying-past (rw (ne-eqb (startAt (numbersOf start) node) 0 (rw number-at h)))
+      trying-placed h = trying-past (rw (ne-eqb (startNumber (numbersOf start) node) 0 (rw number-at h)))
 
       module _ (times : Timetable) (timed : times ≡ timesOf f) (waits : List ℕ)
-          (marks : Waits (f .from) (f .to) (f .delays) (f .retiming) (times .latency) (numbersOf before) p (f .edges) waits) where
+          (marks : WaitsTabled (f .from) (f .to) (f .delays) (f .retiming) (times .latency) (numbersOf before) p (f .edges) waits) where
         is-ready : ready (loopOf f) (retimingOf f) (numbersOf before) p node ≡ eqb (getD waits node 0) 0
         is-ready = ready-is f w times timed (numbersOf before) p waits marks node (omega (arith, ordered-in f order w o i i-in))
 
@@ -150,7 +150,7 @@ module _ (f : Form) where
         }
           where
             now-placed : after ≡ set (numbersOf start) node p
-            now-placed = rw (eq-eqb (startAt (numbersOf start) node) 0 (number-at start node ∙ none), is-ready, eq-eqb (getD waits node 0) 0 ready-now, is-free)
+            now-placed = rw (eq-eqb (startNumber (numbersOf start) node) 0 (number-at start node ∙ none), is-ready, eq-eqb (getD waits node 0) 0 ready-now, is-free)
 
 -- ---- occupied steps
 

@@ -19,7 +19,7 @@ use Rattle.form.specs.Places.{classOf, nodeOf}
 use Rattle.form.specs.Ranges.{WellFormed}
 use Rattle.form.specs.Hold.{hold}
 use Rattle.legal.specs.Loop.{graphOf, loopOf}
-use Rattle.list_rule.specs.Rule.{startAt, uses}
+use Rattle.list_rule.specs.Rule.{startNumber, uses}
 use Rattle.list_rule.specs.Tables.{holdsAt, Raised, Used}
 use Rattle.list_rule.proofs.Laws.{both-false, adds-one, adds-none, count-more, count-within, count-change}
 
@@ -104,10 +104,10 @@ abbrev pub classAt : Form → ℕ → ℕ
 classAt f v = nodeOf f v .class
 
 abbrev pub pastAt : Form → List ℕ → ℕ → ℕ
-pastAt f s v = startAt s v + hold (classOf f (classAt f v))
+pastAt f s v = startNumber s v + hold (classOf f (classAt f v))
 
 module _ (f : Form) (s : List ℕ) where
-  pub uses-holds : (c q v : ℕ) → uses (loopOf f) s c q v ≡ holdsAt (startAt s v) (classAt f v) (pastAt f s v) c q
+  pub uses-holds : (c q v : ℕ) → uses (loopOf f) s c q v ≡ holdsAt (startNumber s v) (classAt f v) (pastAt f s v) c q
   unfolding uses loopOf graphOf holdsAt
   uses-holds c q v = elim (ℕ-discrete (classAt f v) c) [
     | yes e ↦ rw e
@@ -118,7 +118,7 @@ module _ (f : Form) (s : List ℕ) where
   unfolding count span
   used-none busy l z = record { size = l; at = λ c q a b. z (q * 4 + c) }
 
-  pub used-more : (v begins held : ℕ) (busy after : List ℕ) → begins ≡ startAt s v → held ≡ hold (classOf f (classAt f v))
+  pub used-more : (v begins held : ℕ) (busy after : List ℕ) → begins ≡ startNumber s v → held ≡ hold (classOf f (classAt f v))
       → Used f s v busy → Raised busy begins (classAt f v) (begins + held) after → Used f s (v + 1) after
   used-more v begins held busy after is-begins is-held u r = record {
     size = r .size;
@@ -132,7 +132,7 @@ module _ (f : Form) (s : List ℕ) where
   used-fits n busy h u c q a b = omega (arith, u .at c q a b, count-within (uses (loopOf f) s c q) n)
 
 -- a node placed at p uses what it holds, and the others what they used
-pub used-put : (f : Form) (s : List ℕ) (v p held : ℕ) (busy after : List ℕ) → v < f .nodes → v < length s → startAt s v ≡ 0 → held ≡ hold (classOf f (classAt f v))
+pub used-put : (f : Form) (s : List ℕ) (v p held : ℕ) (busy after : List ℕ) → v < f .nodes → v < length s → startNumber s v ≡ 0 → held ≡ hold (classOf f (classAt f v))
     → Used f s (f .nodes) busy → Raised busy p (classAt f v) (p + held) after → Used f (set s v p) (f .nodes) after
 used-put f s v p held busy after v-in v-len none is-held u r = record {
   size = r .size;

@@ -26,12 +26,12 @@ use Rattle.tables.specs.Edges.{Ends, ends-form}
 use Rattle.tables.specs.Times.{timesOf}
 use Rattle.reach.specs.Weight.{tight}
 use Rattle.list_rule.specs.Rule.{blocks, ready}
-use Rattle.list_rule.specs.Tables.{numbersOf, blocksAt, blocksIn, waitsFor, Waits}
+use Rattle.list_rule.specs.Tables.{numbersOf, blocksAt, blocksIn, waitsFor, WaitsTabled}
 use Rattle.list_rule.proofs.Laws.{number-at, adds-none, adds-small, count-more, count-within}
 
 module _ (from to delays retiming latency : List ℕ) (steps : List BodyStep) (p : ℕ) where
   abbrev Counted : ℕ → List ℕ → Type 0
-  Counted = Waits from to delays retiming latency (numbersOf steps) p
+  Counted = WaitsTabled from to delays retiming latency (numbersOf steps) p
 
   abbrev keeps : ℕ → Bool
   keeps = blocksIn from to delays retiming latency (numbersOf steps) p
@@ -102,7 +102,7 @@ module _ (f : Form) (w : WellFormed f) where
       blocks-in e l = rw (takes (getD (f .from) e 0) (w .edge e l .from))
 
       -- a node that no edge keeps is ready
-      pub ready-is : (waits : List ℕ) → Waits (f .from) (f .to) (f .delays) (f .retiming) (t .latency) s p (f .edges) waits → (v : ℕ) → v < 64
+      pub ready-is : (waits : List ℕ) → WaitsTabled (f .from) (f .to) (f .delays) (f .retiming) (t .latency) s p (f .edges) waits → (v : ℕ) → v < 64
           → ready (loopOf f) (retimingOf f) s p v ≡ eqb (getD waits v 0) 0
       unfolding ready waitsFor loopOf graphOf
       ready-is waits marks v l =

@@ -15,14 +15,14 @@ use Rattle.lists.specs.Counted.{span-none, none-span}
 use Rattle.lists.specs.Place.{zeros-at}
 use Rattle.legal.specs.Loop.{Loop, latency}
 use Rattle.reach.specs.Weight.{tight}
-use Rattle.list_rule.specs.Rule.{startAt, blocks, ready, fillFrom, listRule}
+use Rattle.list_rule.specs.Rule.{startNumber, blocks, ready, fillFrom, listRule}
 use Rattle.list_rule.specs.Kept.{Keeps, ran-now, ran-keeps, fill-ran, fill-keeps}
 
 module _ (g : Loop) where
   -- the tail of edge e is placed, and finished by step p
   pub record Finished (s : List ℕ) (p e : ℕ) : Type 0 where
-    pub placed : 0 < startAt s (g .graph .tail e)
-    pub by : startAt s (g .graph .tail e) + latency g (g .graph .tail e) ≤ p
+    pub placed : 0 < startNumber s (g .graph .tail e)
+    pub by : startNumber s (g .graph .tail e) + latency g (g .graph .tail e) ≤ p
 
   pub finished-keeps : (s t : List ℕ) → Keeps s t → (p e : ℕ) → Finished s p e → Finished t p e
   finished-keeps s t k p e f =
@@ -34,29 +34,29 @@ module _ (g : Loop) where
     unfolding blocks
     open-told s p e t b =
         let o = or-fails _ _ (and-fails _ _ b t) in
-        let unset : startAt s (g .graph .tail e) ≡ 0 → ⊥ = eqb-false _ _ (o .0) in
+        let unset : startNumber s (g .graph .tail e) ≡ 0 → ⊥ = eqb-false _ _ (o .0) in
         record { placed = omega arith; by = ltb-false _ _ (o .1) }
 
     told-open : (s : List ℕ) (p e : ℕ) → (tight g r e ≡ true → Finished s p e) → blocks g r s p e ≡ false
     unfolding blocks
     told-open s p e h = go (tight g r e) refl
       where
-        go : (b : Bool) → tight g r e ≡ b → b && (eqb (startAt s (g .graph .tail e)) 0 || ltb p (startAt s (g .graph .tail e) + latency g (g .graph .tail e))) ≡ false
+        go : (b : Bool) → tight g r e ≡ b → b && (eqb (startNumber s (g .graph .tail e)) 0 || ltb p (startNumber s (g .graph .tail e) + latency g (g .graph .tail e))) ≡ false
         go true t =
             let f = h t in
-            fails-or _ _ (ne-eqb (startAt s (g .graph .tail e)) 0 (λ z. omega (arith, f .placed))) (le-ltb _ _ (f .by))
+            fails-or _ _ (ne-eqb (startNumber s (g .graph .tail e)) 0 (λ z. omega (arith, f .placed))) (le-ltb _ _ (f .by))
         go false t = refl
 
     -- a node is ready where all its tight edges are finished
-    abbrev pub Ready : List ℕ → ℕ → ℕ → Type 0
-    Ready s p v = (e : ℕ) → e < g .graph .edges → tight g r e ≡ true → g .graph .head e ≡ v → Finished s p e
+    abbrev pub TightFinished : List ℕ → ℕ → ℕ → Type 0
+    TightFinished s p v = (e : ℕ) → e < g .graph .edges → tight g r e ≡ true → g .graph .head e ≡ v → Finished s p e
 
-    pub ready-told : (s : List ℕ) (p v : ℕ) → ready g r s p v ≡ true → Ready s p v
+    pub ready-told : (s : List ℕ) (p v : ℕ) → ready g r s p v ≡ true → TightFinished s p v
     unfolding ready
     ready-told s p v q e l t h =
         open-told s p e t (and-fails _ _ (none-span _ 0 (g .graph .edges) (eqb-true _ _ q) e (omega arith) (omega arith)) (eq-eqb _ _ h))
 
-    pub told-ready : (s : List ℕ) (p v : ℕ) → Ready s p v → ready g r s p v ≡ true
+    pub told-ready : (s : List ℕ) (p v : ℕ) → TightFinished s p v → ready g r s p v ≡ true
     unfolding ready
     told-ready s p v h = eq-eqb _ _ (span-none _ 0 (g .graph .edges) (λ e a l. go e (omega arith) (eqb (g .graph .head e) v) refl))
       where
@@ -68,13 +68,13 @@ module _ (g : Loop) where
 
     -- every tight edge into a node that is placed is finished when the node starts
     abbrev pub InTime : List ℕ → Type 0
-    InTime s = (e : ℕ) → e < g .graph .edges → tight g r e ≡ true → 0 < startAt s (g .graph .head e) → Finished s (startAt s (g .graph .head e)) e
+    InTime s = (e : ℕ) → e < g .graph .edges → tight g r e ≡ true → 0 < startNumber s (g .graph .head e) → Finished s (startNumber s (g .graph .head e)) e
 
     module _ (order : List ℕ) (left p : ℕ) (one : 1 ≤ p) (s : List ℕ) where
       -- so is every one into a node that the rule places
-      pub new-in-time : (e : ℕ) → e < g .graph .edges → tight g r e ≡ true → startAt s (g .graph .head e) ≡ 0
-          → 0 < startAt (fillFrom g r order left p s) (g .graph .head e)
-          → Finished (fillFrom g r order left p s) (startAt (fillFrom g r order left p s) (g .graph .head e)) e
+      pub new-in-time : (e : ℕ) → e < g .graph .edges → tight g r e ≡ true → startNumber s (g .graph .head e) ≡ 0
+          → 0 < startNumber (fillFrom g r order left p s) (g .graph .head e)
+          → Finished (fillFrom g r order left p s) (startNumber (fillFrom g r order left p s) (g .graph .head e)) e
       new-in-time e l t z h =
           let v = g .graph .head e in
           let u = fillFrom g r order left p s in
@@ -92,8 +92,8 @@ module _ (g : Loop) where
           let keeps = fill-keeps g r order left p s in
           ⊎-elim
           (λ z. new-in-time e l t z h)
-          (λ h. rw (keeps v h) (finished-keeps s (fillFrom g r order left p s) keeps (startAt s v) e (ok e l t h)))
-          (eq-zero-or-pos (startAt s v))
+          (λ h. rw (keeps v h) (finished-keeps s (fillFrom g r order left p s) keeps (startNumber s v) e (ok e l t h)))
+          (eq-zero-or-pos (startNumber s v))
 
     pub rule-in-time : (s : List ℕ) → InTime s → InTime (listRule g r s)
     unfolding listRule

@@ -19,7 +19,7 @@ use Rattle.legal.specs.Shape.{Sound}
 use Rattle.reach.specs.Weight.{tight}
 use Rattle.list_rule.specs.Order.{orderOf}
 use Rattle.list_rule.specs.Ordered.{order-has, order-below}
-use Rattle.list_rule.specs.Rule.{startAt, allPlaced, lengthOf}
+use Rattle.list_rule.specs.Rule.{startNumber, allPlaced, lengthOf}
 use Rattle.list_rule.specs.Ends.{EndsBy, length-ends, length-least}
 
 -- the class of every node has a unit
@@ -48,14 +48,14 @@ pub order-whole : (g : Loop) (weights : ℕ → ℕ) → Whole g (orderOf weight
 order-whole g weights = record { nodes = order-below weights (g .graph .nodes); has = order-has weights (g .graph .nodes) }
 
 -- a table with a place for every node, whose starts end by step m
-pub record Within (g : Loop) (s : List ℕ) (m : ℕ) : Type 0 where
+pub record TableEndsBy (g : Loop) (s : List ℕ) (m : ℕ) : Type 0 where
   pub long : g .graph .nodes ≤ length s
   pub ends : EndsBy g s m
 
 -- every node is placed, and ends by step m
 pub record Filled (g : Loop) (t : List ℕ) (m : ℕ) : Type 0 where
-  pub placed : (v : ℕ) → v < g .graph .nodes → 0 < startAt t v
-  pub ends : (v : ℕ) → v < g .graph .nodes → startAt t v + latency g v ≤ m + 1
+  pub placed : (v : ℕ) → v < g .graph .nodes → 0 < startNumber t v
+  pub ends : (v : ℕ) → v < g .graph .nodes → startNumber t v + latency g v ≤ m + 1
 
 pub filled-by : (g : Loop) (t : List ℕ) (m n : ℕ) → m ≤ n → Filled g t m → Filled g t n
 filled-by g t m n h f = record { placed = f .placed; ends = λ v l. omega (arith, f .ends v l) }
@@ -69,16 +69,16 @@ filled-length g t m sound f = (
 
 -- ---- the test of the last step
 
-pub all-placed-told : (g : Loop) (r : ℕ → ℕ) (s : List ℕ) → allPlaced g r s ≡ true → (v : ℕ) → v < g .graph .nodes → 0 < startAt s v
+pub all-placed-told : (g : Loop) (r : ℕ → ℕ) (s : List ℕ) → allPlaced g r s ≡ true → (v : ℕ) → v < g .graph .nodes → 0 < startNumber s v
 unfolding allPlaced
 all-placed-told g r s e v l =
-    let unset : startAt s v ≡ 0 → ⊥ = eqb-false _ _ (none-span _ 0 (g .graph .nodes) (eqb-true _ _ e) v (omega arith) (omega arith)) in
+    let unset : startNumber s v ≡ 0 → ⊥ = eqb-false _ _ (none-span _ 0 (g .graph .nodes) (eqb-true _ _ e) v (omega arith) (omega arith)) in
     omega arith
 
-pub some-unplaced : (g : Loop) (r : ℕ → ℕ) (s : List ℕ) → allPlaced g r s ≡ false → (v : ℕ) × (v < g .graph .nodes) × (startAt s v ≡ 0)
+pub some-unplaced : (g : Loop) (r : ℕ → ℕ) (s : List ℕ) → allPlaced g r s ≡ false → (v : ℕ) × (v < g .graph .nodes) × (startNumber s v ≡ 0)
 unfolding allPlaced
 some-unplaced g r s e =
-    let n : ℕ = count (λ v. eqb (startAt s v) 0) (span 0 (g .graph .nodes)) in
+    let n : ℕ = count (λ v. eqb (startNumber s v) 0) (span 0 (g .graph .nodes)) in
     let some : n ≡ 0 → ⊥ = eqb-false _ _ e in
-    let w = count-some (λ v. eqb (startAt s v) 0) (g .graph .nodes) (omega arith) in
+    let w = count-some (λ v. eqb (startNumber s v) 0) (g .graph .nodes) (omega arith) in
     (w .0, w .1, eqb-true _ _ (w .2))

@@ -9,12 +9,12 @@ use native.Mathlib.Nat.{mul-le-mul-left}
 use borrow.Author.Tests.{not-false, eqb-true, eqb-false}
 use lib.ListN.{replicate}
 use Rattle.system.specs.Laws.{settledAt, settled-solves}
-use Rattle.legal.specs.Loop.{plain, within, reach, Loop, Pair}
+use Rattle.legal.specs.Loop.{plain, within, bodies, Loop, Pair}
 use Rattle.legal.specs.Legal.{Legal, EdgeRule}
 use Rattle.legal.specs.Systems.{knots, knotted}
 use Rattle.legal.specs.Shape.{Sound, Bodied}
 use Rattle.reach.specs.Weight.{tight}
-use Rattle.list_rule.specs.Rule.{startAt, listRule, lengthOf}
+use Rattle.list_rule.specs.Rule.{startNumber, listRule, lengthOf}
 use Rattle.list_rule.specs.Units.{zeros-units, in-use-busy}
 use Rattle.list_rule.specs.Edges.{zeros-in-time}
 use Rattle.list_rule.specs.Ends.{length-ends}
@@ -30,7 +30,7 @@ unfoldable pub firstStarts : Loop → List ℕ
 firstStarts g = listRule g unretimed (replicate 64 0)
 
 unfoldable pub firstPair : Loop → Pair
-firstPair g = record { kind = plain; start = startAt (firstStarts g); length = lengthOf g (firstStarts g); retiming = unretimed }
+firstPair g = record { kind = plain; start = startNumber (firstStarts g); length = lengthOf g (firstStarts g); retiming = unretimed }
 
 -- without a knot, edges of delay 0 go up in the values that the system of knots settles at
 pub unknotted-ranked : (g : Loop) → knotted g ≡ false → Ranked g unretimed
@@ -72,7 +72,7 @@ module _ (g : Loop) (sound : Sound g) (staffed : Staffed g) (free : knotted g �
 
   -- the first schedule is legal
   pub first-legal : Legal g (firstPair g)
-  unfolding firstPair firstStarts within reach
+  unfolding firstPair firstStarts within bodies
   first-legal = record {
     steps = first-length;
     body = first-bodied;

@@ -15,11 +15,11 @@ use Rattle.lists.specs.Both.{and-both, both-and}
 use Rattle.lists.specs.Fold.{fold}
 use Rattle.lists.specs.Place.{set-view}
 use Rattle.legal.specs.Loop.{Loop}
-use Rattle.list_rule.specs.Rule.{startAt, free, ready, place, fillStep, allPlaced, fillFrom}
+use Rattle.list_rule.specs.Rule.{startNumber, free, ready, place, fillStep, allPlaced, fillFrom}
 
 -- every start that s gives stays in t
 abbrev pub Keeps : List ℕ → List ℕ → Type 0
-Keeps s t = (v : ℕ) → 0 < startAt s v → startAt t v ≡ startAt s v
+Keeps s t = (v : ℕ) → 0 < startNumber s v → startNumber t v ≡ startNumber s v
 
 pub keeps-on : (s t u : List ℕ) → Keeps s t → Keeps t u → Keeps s u
 keeps-on s t u a b v h = b v (omega (arith, a v h)) ∙ a v h
@@ -27,13 +27,13 @@ keeps-on s t u a b v h = b v (omega (arith, a v h)) ∙ a v h
 module _ (g : Loop) (r : ℕ → ℕ) where
   -- node v is placed at p in s, in a step that began with the starts `before`
   pub record Goes (before : List ℕ) (p : ℕ) (s : List ℕ) (v : ℕ) : Type 0 where
-    pub unset : startAt s v ≡ 0
+    pub unset : startNumber s v ≡ 0
     pub is-ready : ready g r before p v ≡ true
     pub is-free : free g s p v ≡ true
 
   -- the test by which it is
   abbrev goes : List ℕ → ℕ → List ℕ → ℕ → Bool
-  goes before p s v = eqb (startAt s v) 0 && (ready g r before p v && free g s p v)
+  goes before p s v = eqb (startNumber s v) 0 && (ready g r before p v && free g s p v)
 
   goes-told : (before : List ℕ) (p : ℕ) (s : List ℕ) (v : ℕ) → goes before p s v ≡ true → Goes before p s v
   goes-told before p s v e =
@@ -63,8 +63,8 @@ module _ (g : Loop) (r : ℕ → ℕ) where
   pub place-length : (before : List ℕ) (p : ℕ) (s : List ℕ) (v : ℕ) → length (place g r before p s v) ≡ length s
   place-length before p s v = place-ind (λ t. length t ≡ length s) before p s v refl (λ h. length-set s v p)
 
-  set-keeps : (s : List ℕ) (v p : ℕ) → startAt s v ≡ 0 → Keeps s (set s v p)
-  set-keeps s v p z w h = ⊎-elim (λ q. absurd (omega (arith, ap (startAt s) (q .0)))) (λ q. q) (set-view s v p w)
+  set-keeps : (s : List ℕ) (v p : ℕ) → startNumber s v ≡ 0 → Keeps s (set s v p)
+  set-keeps s v p z w h = ⊎-elim (λ q. absurd (omega (arith, ap (startNumber s) (q .0)))) (λ q. q) (set-view s v p w)
 
   pub place-keeps : (before : List ℕ) (p : ℕ) (s : List ℕ) (v : ℕ) → Keeps s (place g r before p s v)
   place-keeps before p s v = place-ind (Keeps s) before p s v (λ w h. refl) (λ h. set-keeps s v p (h .unset))
@@ -109,27 +109,27 @@ module _ (g : Loop) (r : ℕ → ℕ) where
   -- ---- what is done
 
   -- node v was placed at p on the way from s to t, in a step that began with the starts `before`
-  pub record Took (before : List ℕ) (p : ℕ) (s t : List ℕ) (v : ℕ) : Type 0 where
+  pub record TookPlace (before : List ℕ) (p : ℕ) (s t : List ℕ) (v : ℕ) : Type 0 where
     pub table : List ℕ
     pub from : Keeps s table
     pub goes : Goes before p table v
-    pub now : startAt t v ≡ p
+    pub now : startNumber t v ≡ p
 
-  pub took-unset : (before : List ℕ) (p : ℕ) (s t : List ℕ) (v : ℕ) → Took before p s t v → startAt s v ≡ 0
+  pub took-unset : (before : List ℕ) (p : ℕ) (s t : List ℕ) (v : ℕ) → TookPlace before p s t v → startNumber s v ≡ 0
   took-unset before p s t v k =
-      ⊎-elim (λ z. z) (λ h. absurd (omega (arith, k .from v h, k .goes .unset))) (eq-zero-or-pos (startAt s v))
+      ⊎-elim (λ z. z) (λ h. absurd (omega (arith, k .from v h, k .goes .unset))) (eq-zero-or-pos (startNumber s v))
 
   place-took : (before : List ℕ) (p : ℕ) (s : List ℕ) (v w : ℕ)
-      → (startAt (place g r before p s v) w ≡ startAt s w) ⊎ Took before p s (place g r before p s v) w
+      → (startNumber (place g r before p s v) w ≡ startNumber s w) ⊎ TookPlace before p s (place g r before p s v) w
   place-took before p s v w =
-      place-ind (λ t. (startAt t w ≡ startAt s w) ⊎ Took before p s t w) before p s v (inl refl) (λ h.
+      place-ind (λ t. (startNumber t w ≡ startNumber s w) ⊎ TookPlace before p s t w) before p s v (inl refl) (λ h.
       ⊎-elim
       (λ q. inr (record { table = s; from = λ u l. refl; goes = rw (q .0) h; now = q .1 }))
       inl
       (set-view s v p w))
 
   fold-took : (before : List ℕ) (p : ℕ) (vs s : List ℕ) (w : ℕ)
-      → (startAt (fold (place g r before p) s vs) w ≡ startAt s w) ⊎ Took before p s (fold (place g r before p) s vs) w
+      → (startNumber (fold (place g r before p) s vs) w ≡ startNumber s w) ⊎ TookPlace before p s (fold (place g r before p) s vs) w
   unfolding fold
   fold-took before p [] s w = inl refl
   fold-took before p (v ∷ vs) s w =
@@ -145,27 +145,27 @@ module _ (g : Loop) (r : ℕ → ℕ) where
 
   -- a step leaves a node's start, or places it
   pub step-took : (order : List ℕ) (p : ℕ) (s : List ℕ) (v : ℕ)
-      → (startAt (fillStep g r order p s) v ≡ startAt s v) ⊎ Took s p s (fillStep g r order p s) v
+      → (startNumber (fillStep g r order p s) v ≡ startNumber s v) ⊎ TookPlace s p s (fillStep g r order p s) v
   unfolding fillStep
   step-took order p s v = fold-took s p order s v
 
   -- one of so many steps from p on placed node v on the way from s to t
-  pub record Ran (order : List ℕ) (left p : ℕ) (s t : List ℕ) (v : ℕ) : Type 0 where
+  pub record PlacedFrom (order : List ℕ) (left p : ℕ) (s t : List ℕ) (v : ℕ) : Type 0 where
     pub step : ℕ
     pub begun : p ≤ step
     pub ended : step < p + left
     pub table : List ℕ
     pub from : Keeps s table
-    pub took : Took table step table (fillStep g r order step table) v
+    pub took : TookPlace table step table (fillStep g r order step table) v
     pub to : Keeps (fillStep g r order step table) t
 
-  module _ (order : List ℕ) (left p : ℕ) (s t : List ℕ) (v : ℕ) (k : Ran order left p s t v) where
-    pub ran-unset : startAt s v ≡ 0
+  module _ (order : List ℕ) (left p : ℕ) (s t : List ℕ) (v : ℕ) (k : PlacedFrom order left p s t v) where
+    pub ran-unset : startNumber s v ≡ 0
     ran-unset =
         let z = took-unset (k .table) (k .step) (k .table) _ v (k .took) in
-        ⊎-elim (λ z. z) (λ h. absurd (omega (arith, k .from v h))) (eq-zero-or-pos (startAt s v))
+        ⊎-elim (λ z. z) (λ h. absurd (omega (arith, k .from v h))) (eq-zero-or-pos (startNumber s v))
 
-    pub ran-now : 1 ≤ p → startAt t v ≡ k .step
+    pub ran-now : 1 ≤ p → startNumber t v ≡ k .step
     ran-now one =
         let n = k .took .now in
         k .to v (omega (arith, k .begun)) ∙ n
@@ -175,13 +175,13 @@ module _ (g : Loop) (r : ℕ → ℕ) where
 
   -- the rule leaves a node's start, or places it in one of its steps
   pub fill-ran : (order : List ℕ) (left p : ℕ) (s : List ℕ) (v : ℕ)
-      → (startAt (fillFrom g r order left p s) v ≡ startAt s v) ⊎ Ran order left p s (fillFrom g r order left p s) v
+      → (startNumber (fillFrom g r order left p s) v ≡ startNumber s v) ⊎ PlacedFrom order left p s (fillFrom g r order left p s) v
   unfolding fillFrom
   fill-ran order zero p s v = inl refl
   fill-ran order (suc left) p s v =
       let s′ = fillStep g r order p s in
       let t = fillFrom g r order left (p + 1) s′ in
-      pick-ind (λ u. (startAt u v ≡ startAt s v) ⊎ Ran order (suc left) p s u v) (allPlaced g r s) s t
+      pick-ind (λ u. (startNumber u v ≡ startNumber s v) ⊎ PlacedFrom order (suc left) p s u v) (allPlaced g r s) s t
       (λ e. inl refl)
       (λ e. ⊎-elim
       (λ q. ⊎-elim

@@ -23,34 +23,34 @@ use Rattle.legal.specs.Loop.{Loop, latency, runsOn}
 use Rattle.legal.specs.Shape.{Sound}
 use Rattle.reach.specs.Weight.{tight, weight}
 use Rattle.list_rule.specs.Order.{orderOf}
-use Rattle.list_rule.specs.Rule.{startAt, uses, inUse, place, fillStep, allPlaced, fillFrom, listRule}
+use Rattle.list_rule.specs.Rule.{startNumber, uses, inUse, place, fillStep, allPlaced, fillFrom, listRule}
 use Rattle.list_rule.specs.Kept.{Goes, place-view}
 use Rattle.list_rule.specs.Units.{room-free, uses-told}
 use Rattle.list_rule.specs.Edges.{told-ready}
 use Rattle.list_rule.specs.Ends.{EndsBy, work, work-set, work-has, work-bound}
-use Rattle.list_rule.specs.Filling.{Staffed, Ranked, Nodes, Whole, order-whole, Within, Filled, filled-by, all-placed-told, some-unplaced}
+use Rattle.list_rule.specs.Filling.{Staffed, Ranked, Nodes, Whole, order-whole, TableEndsBy, Filled, filled-by, all-placed-told, some-unplaced}
 
 module _ (g : Loop) (r : ℕ → ℕ) (sound : Sound g) where
   -- ---- a step moves the end on by no more than the latencies of the nodes that it places
 
-  set-within : (s : List ℕ) (m p v : ℕ) → v < g .graph .nodes → p ≤ m + 1 → Within g s m → Within g (set s v p) (m + latency g v)
+  set-within : (s : List ℕ) (m p v : ℕ) → v < g .graph .nodes → p ≤ m + 1 → TableEndsBy g s m → TableEndsBy g (set s v p) (m + latency g v)
   set-within s m p v l h st = record {
     long = omega (arith, length-set s v p, st .long);
     ends = λ w lw pw.
         elim (ℕ-discrete w v) [
-          | yes q ↦ omega (arith, ap (startAt (set s v p)) q, ap (latency g) q, getD-set-same s v p 0 (omega (arith, st .long)))
+          | yes q ↦ omega (arith, ap (startNumber (set s v p)) q, ap (latency g) q, getD-set-same s v p 0 (omega (arith, st .long)))
           | no q ↦ let o = getD-set-other s v w p 0 q in omega (arith, st .ends w lw (omega arith))
         ];
   }
 
   record Stepped (s t : List ℕ) (m p : ℕ) : Type 0 where
     by : ℕ
-    within : Within g t by
+    within : TableEndsBy g t by
     less : by + work g t ≤ m + work g s
     past : p ≤ by
 
   -- a step within the body so far
-  step-in : (before : List ℕ) (p : ℕ) → 1 ≤ p → (vs s : List ℕ) (m : ℕ) → Nodes g vs → p ≤ m → Within g s m → Stepped s (fold (place g r before p) s vs) m p
+  step-in : (before : List ℕ) (p : ℕ) → 1 ≤ p → (vs s : List ℕ) (m : ℕ) → Nodes g vs → p ≤ m → TableEndsBy g s m → Stepped s (fold (place g r before p) s vs) m p
   unfolding fold
   step-in before p one [] s m h l st = record { by = m; within = st; less = omega arith; past = l }
   step-in before p one (v ∷ vs) s m h l st =
@@ -65,7 +65,7 @@ module _ (g : Loop) (r : ℕ → ℕ) (sound : Sound g) where
       (place-view g r before p s v)
 
   -- a step right after it: a node is placed, or none goes
-  step-next : (p : ℕ) → 1 ≤ p → (vs s : List ℕ) (m : ℕ) → Nodes g vs → p ≡ m + 1 → Within g s m
+  step-next : (p : ℕ) → 1 ≤ p → (vs s : List ℕ) (m : ℕ) → Nodes g vs → p ≡ m + 1 → TableEndsBy g s m
       → Stepped s (fold (place g r s p) s vs) m p ⊎ ((i : ℕ) → i < length vs → Goes g r s p s (getD vs i 0) → ⊥)
   unfolding fold
   step-next p one [] s m h l st = inr (λ i j. absurd (not-suc-le-zero j))
@@ -105,15 +105,15 @@ module _ (g : Loop) (r : ℕ → ℕ) (sound : Sound g) where
   record Next (s : List ℕ) : Type 0 where
     node : ℕ
     in-range : node < g .graph .nodes
-    unset : startAt s node ≡ 0
-    freed : (e : ℕ) → e < g .graph .edges → tight g r e ≡ true → g .graph .head e ≡ node → 0 < startAt s (g .graph .tail e)
+    unset : startNumber s node ≡ 0
+    freed : (e : ℕ) → e < g .graph .edges → tight g r e ≡ true → g .graph .head e ≡ node → 0 < startNumber s (g .graph .tail e)
 
   module _ (staffed : Staffed g) (ranked : Ranked g r) where
     -- from any node that is not placed down the ranks
-    next : (k : ℕ) (s : List ℕ) (v : ℕ) → ranked .rank v < k → v < g .graph .nodes → startAt s v ≡ 0 → Next s
+    next : (k : ℕ) (s : List ℕ) (v : ℕ) → ranked .rank v < k → v < g .graph .nodes → startNumber s v ≡ 0 → Next s
     next zero s v l h z = absurd (not-suc-le-zero l)
     next (suc k) s v l h z =
-        let waits : ℕ → Bool = λ e. tight g r e && (eqb (g .graph .head e) v && eqb (startAt s (g .graph .tail e)) 0) in
+        let waits : ℕ → Bool = λ e. tight g r e && (eqb (g .graph .head e) v && eqb (startNumber s (g .graph .tail e)) 0) in
         ⊎-elim
         (λ w.
         let a = and-both (tight g r (w .0)) _ (w .2) in
@@ -126,14 +126,14 @@ module _ (g : Loop) (r : ℕ → ℕ) (sound : Sound g) where
           in-range = h;
           unset = z;
           freed = λ e le t to.
-              elim (ℕ-discrete (startAt s (g .graph .tail e)) 0) [
+              elim (ℕ-discrete (startNumber s (g .graph .tail e)) 0) [
                 | yes q ↦ both-ways (both-and (tight g r e) _ t (both-and (eqb (g .graph .head e) v) _ (eq-eqb _ _ to) (eq-eqb _ _ q))) (none e le)
                 | no q ↦ omega arith
               ];
         })
         (some-or-none waits (g .graph .edges))
 
-    next-goes : (s : List ℕ) (m p : ℕ) → p ≡ m + 1 → Within g s m → (n : Next s) → Goes g r s p s (n .node)
+    next-goes : (s : List ℕ) (m p : ℕ) → p ≡ m + 1 → TableEndsBy g s m → (n : Next s) → Goes g r s p s (n .node)
     next-goes s m p q st n = record {
       unset = n .unset;
       is-ready = told-ready g r s p (n .node) (λ e l t to.
@@ -143,7 +143,7 @@ module _ (g : Loop) (r : ℕ → ℕ) (sound : Sound g) where
     }
 
     module _ (order : List ℕ) (whole : Whole g order) where
-      step : (s : List ℕ) (m p v : ℕ) → 1 ≤ p → p ≤ m + 1 → v < g .graph .nodes → startAt s v ≡ 0 → Within g s m → Stepped s (fillStep g r order p s) m p
+      step : (s : List ℕ) (m p v : ℕ) → 1 ≤ p → p ≤ m + 1 → v < g .graph .nodes → startNumber s v ≡ 0 → TableEndsBy g s m → Stepped s (fillStep g r order p s) m p
       unfolding fillStep
       step s m p v one l h z st =
           elim (decLe p m) [
@@ -160,11 +160,11 @@ module _ (g : Loop) (r : ℕ → ℕ) (sound : Sound g) where
           ]
 
       -- the steps left cover what is left
-      fill : (left p : ℕ) (s : List ℕ) (m : ℕ) → 1 ≤ p → p ≤ m + 1 → m + 1 + work g s ≤ left + p → Within g s m → Filled g (fillFrom g r order left p s) (m + work g s)
+      fill : (left p : ℕ) (s : List ℕ) (m : ℕ) → 1 ≤ p → p ≤ m + 1 → m + 1 + work g s ≤ left + p → TableEndsBy g s m → Filled g (fillFrom g r order left p s) (m + work g s)
       unfolding fillFrom
       fill zero p s m one l c st =
-          let placed : (v : ℕ) → v < g .graph .nodes → 0 < startAt s v = λ v h.
-          elim (ℕ-discrete (startAt s v) 0) [
+          let placed : (v : ℕ) → v < g .graph .nodes → 0 < startNumber s v = λ v h.
+          elim (ℕ-discrete (startNumber s v) 0) [
             | yes z ↦ absurd (omega (arith, work-has g s v h z, sound .works v h))
             | no z ↦ omega arith
           ] in
@@ -180,11 +180,11 @@ module _ (g : Loop) (r : ℕ → ℕ) (sound : Sound g) where
           filled-by g _ (w .by + work g (fillStep g r order p s)) (m + work g s) (w .less) (fill left (p + 1) (fillStep g r order p s) (w .by) (omega arith) (omega (arith, w .past)) (omega (arith, w .less)) (w .within)))
 
       -- every node is placed where there are enough steps
-      pub fill-places : (left : ℕ) (s : List ℕ) (m : ℕ) → Within g s m → m + work g s ≤ left → Filled g (fillFrom g r order left 1 s) (m + work g s)
+      pub fill-places : (left : ℕ) (s : List ℕ) (m : ℕ) → TableEndsBy g s m → m + work g s ≤ left → Filled g (fillFrom g r order left 1 s) (m + work g s)
       fill-places left s m st h = fill left 1 s m (omega arith) (omega arith) (omega arith) st
 
 -- the rule places every node where the starts given end by step 511
-pub rule-places : (g : Loop) (r : ℕ → ℕ) → Sound g → Staffed g → Ranked g r → (s : List ℕ) (m : ℕ) → Within g s m → m ≤ 511 → Filled g (listRule g r s) (m + work g s)
+pub rule-places : (g : Loop) (r : ℕ → ℕ) → Sound g → Staffed g → Ranked g r → (s : List ℕ) (m : ℕ) → TableEndsBy g s m → m ≤ 511 → Filled g (listRule g r s) (m + work g s)
 unfolding listRule
 rule-places g r sound staffed ranked s m st h =
     fill-places g r sound staffed ranked (orderOf (weight g r) (g .graph .nodes)) (order-whole g (weight g r)) 1023 s m st
@@ -194,5 +194,5 @@ rule-places g r sound staffed ranked s m st h =
 pub zeros-places : (g : Loop) (r : ℕ → ℕ) → Sound g → Staffed g → Ranked g r → Filled g (listRule g r (replicate 64 0)) 512
 zeros-places g r sound staffed ranked =
     let s : List ℕ = replicate 64 0 in
-    let st : Within g s 0 = record { long = omega (arith, length-replicate {A = ℕ} 64 0, sound .few); ends = λ v l h. absurd (omega (arith, zeros-at 64 v)) } in
+    let st : TableEndsBy g s 0 = record { long = omega (arith, length-replicate {A = ℕ} 64 0, sound .few); ends = λ v l h. absurd (omega (arith, zeros-at 64 v)) } in
     filled-by g _ (0 + work g s) 512 (omega (arith, work-bound g s 8 (sound .short), sound .few)) (rule-places g r sound staffed ranked s 0 st (omega arith))

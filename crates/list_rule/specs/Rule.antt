@@ -13,14 +13,14 @@ use Rattle.legal.specs.Loop.{Loop, runsOn, latency}
 use Rattle.reach.specs.Weight.{tight, weight}
 use Rattle.list_rule.specs.Order.{orderOf}
 
-abbrev pub startAt : List ℕ → ℕ → ℕ
-startAt s v = getD s v 0
+abbrev pub startNumber : List ℕ → ℕ → ℕ
+startNumber s v = getD s v 0
 
 module _ (g : Loop) where
   -- a placed node occupies a unit of class c in step q
   unfoldable pub uses : List ℕ → ℕ → ℕ → ℕ → Bool
   uses s c q v =
-      ltb 0 (startAt s v) && (eqb (runsOn g v) c && (leb (startAt s v) q && ltb q (startAt s v + hold (g .class c))))
+      ltb 0 (startNumber s v) && (eqb (runsOn g v) c && (leb (startNumber s v) q && ltb q (startNumber s v + hold (g .class c))))
 
   -- how many do
   unfoldable pub inUse : List ℕ → ℕ → ℕ → ℕ
@@ -34,7 +34,7 @@ module _ (g : Loop) where
   module _ (r : ℕ → ℕ) where
     -- edge e of retimed delay 0 keeps its head from starting at p: its tail is not placed, or not finished
     unfoldable pub blocks : List ℕ → ℕ → ℕ → Bool
-    blocks s p e = tight g r e && (eqb (startAt s (g .graph .tail e)) 0 || ltb p (startAt s (g .graph .tail e) + latency g (g .graph .tail e)))
+    blocks s p e = tight g r e && (eqb (startNumber s (g .graph .tail e)) 0 || ltb p (startNumber s (g .graph .tail e) + latency g (g .graph .tail e)))
 
     -- no edge into v does
     unfoldable pub ready : List ℕ → ℕ → ℕ → Bool
@@ -42,7 +42,7 @@ module _ (g : Loop) where
 
     -- node v is placed at p if it is not placed yet, was ready at the beginning of the step, and finds a unit
     unfoldable pub place : List ℕ → ℕ → List ℕ → ℕ → List ℕ
-    place before p s v = pick (eqb (startAt s v) 0 && (ready before p v && free s p v)) (set s v p) s
+    place before p s v = pick (eqb (startNumber s v) 0 && (ready before p v && free s p v)) (set s v p) s
 
     -- step p: each node in the order given
     unfoldable pub fillStep : List ℕ → ℕ → List ℕ → List ℕ
@@ -50,7 +50,7 @@ module _ (g : Loop) where
 
     -- every node is placed
     unfoldable pub allPlaced : List ℕ → Bool
-    allPlaced s = eqb (count (λ v. eqb (startAt s v) 0) (span 0 (g .graph .nodes))) 0
+    allPlaced s = eqb (count (λ v. eqb (startNumber s v) 0) (span 0 (g .graph .nodes))) 0
 
     -- at most so many steps from p on, until every node is placed
     unfoldable pub fillFrom : List ℕ → ℕ → ℕ → List ℕ → List ℕ
@@ -65,4 +65,4 @@ module _ (g : Loop) where
 
   -- the length of a body: the largest start + latency - 1
   unfoldable pub lengthOf : List ℕ → ℕ
-  lengthOf s = top (map (λ v. startAt s v + latency g v - 1) (span 0 (g .graph .nodes)))
+  lengthOf s = top (map (λ v. startNumber s v + latency g v - 1) (span 0 (g .graph .nodes)))

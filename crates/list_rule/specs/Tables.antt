@@ -13,7 +13,7 @@ use Rattle.form.specs.declared.Form.{Form}
 use Rattle.form.specs.declared.BodyStep.{BodyStep}
 use Rattle.form.specs.Places.{startOf, latencyOf}
 use Rattle.legal.specs.Loop.{loopOf}
-use Rattle.list_rule.specs.Rule.{startAt, uses}
+use Rattle.list_rule.specs.Rule.{startNumber, uses}
 
 -- the numbers of the steps in a table of starts
 unfoldable pub numbersOf : List BodyStep → List ℕ
@@ -28,7 +28,7 @@ abbrev pub weightOf : List ℕ → ℕ → ℕ
 weightOf weight v = getD weight v 0
 
 -- a node that is placed before the list rule ends in the longest body; with start 0 it does in any case
-pub record Ends (f : Form) : Type 0 where
+pub record EndsInBody (f : Form) : Type 0 where
   pub at : (v : ℕ) → v < f .nodes → startOf f v + latencyOf f v ≤ 513
 
 -- ---- units in use: step q and class c have the place q * 4 + c
@@ -58,13 +58,13 @@ module _ (from to delays retiming latency s : List ℕ) (p : ℕ) where
   abbrev pub blocksIn : ℕ → Bool
   blocksIn e =
       let tail = getD from e 0 in
-      blocksAt (getD delays e 0) (getD retiming tail 0) (getD retiming (getD to e 0) 0) (startAt s tail) (getD latency tail 0) p
+      blocksAt (getD delays e 0) (getD retiming tail 0) (getD retiming (getD to e 0) 0) (startNumber s tail) (getD latency tail 0) p
 
   -- how many of the first n edges keep v from starting at p
   unfoldable pub waitsFor : ℕ → ℕ → ℕ
   waitsFor n v = count (λ e. eqb (getD to e 0) v && blocksIn e) (span 0 n)
 
   -- a table of them
-  pub record Waits (n : ℕ) (waits : List ℕ) : Type 0 where
+  pub record WaitsTabled (n : ℕ) (waits : List ℕ) : Type 0 where
     pub size : length waits ≡ 64
     pub at : (v : ℕ) → v < 64 → getD waits v 0 ≡ waitsFor n v

@@ -1,17 +1,16 @@
 -- The list rule keeps the unit rule: a step that holds no more of a class than its units does so still when the rule is done.
 -- Assumes nothing.
 use mathlib.Core.Path.{_≡_, refl, sym, _∙_, ap, subst}
-use mathlib.Core.Bool.{Bool, true, false, _&&_}
+use mathlib.Core.Bool.{Bool, true, false}
 use mathlib.Core.Logic.{_≢_, ⊎-elim}
 use mathlib.Core.List.{List, [], _∷_}
 use Prim.Native.Nat.{ℕ, _+_, _≤_, _<_}
 use native.Mathlib.Omega.{arith}
 use native.Mathlib.Decide.{decLt}
 use borrow.Author.Tests.{eqb-true, ltb-true, leb-true, leb-false, eq-eqb, lt-ltb, lt-leb}
-use lib.Dec.{eqb, leb, ltb}
-use lib.ListN.{length, set, replicate}
-use lib.Seq.{getD-set-same, getD-set-other}
-use Rattle.lists.specs.Pick.{pick, pick-true, pick-false}
+use lib.ListN.{set, replicate}
+use lib.Seq.{getD-set-other}
+use Rattle.lists.specs.Pick.{pick-true, pick-false}
 use Rattle.lists.specs.Both.{and-both}
 use Rattle.lists.specs.Fold.{fold}
 use Rattle.lists.specs.Count.{count-same}
@@ -22,17 +21,17 @@ use Rattle.legal.specs.Loop.{plain, Loop, Pair, runsOn}
 use Rattle.legal.specs.Legal.{busy}
 use Rattle.legal.specs.Shape.{Sound, Bodied}
 use Rattle.legal.specs.Busy.{spans, busy-plain}
-use Rattle.list_rule.specs.Rule.{startAt, uses, inUse, free, place, fillStep, fillFrom, listRule}
+use Rattle.list_rule.specs.Rule.{startNumber, uses, inUse, free, place, fillStep, fillFrom, listRule}
 use Rattle.list_rule.specs.Kept.{place-ind, fill-ind}
 
 module _ (g : Loop) where
   -- ---- what the tests tell
 
   pub record Uses (s : List ℕ) (c q v : ℕ) : Type 0 where
-    pub placed : 0 < startAt s v
+    pub placed : 0 < startNumber s v
     pub class : runsOn g v ≡ c
-    pub since : startAt s v ≤ q
-    pub until : q < startAt s v + hold (g .class c)
+    pub since : startNumber s v ≤ q
+    pub until : q < startNumber s v + hold (g .class c)
 
   pub uses-told : (s : List ℕ) (c q v : ℕ) → uses g s c q v ≡ true → Uses s c q v
   unfolding uses
@@ -61,26 +60,8 @@ module _ (g : Loop) where
   unfolding uses
   uses-other s c q v p w ne = rw (getD-set-other s v w p 0 ne)
 
-  -- node v would occupy a unit of class c in step q, started at p
-  unfoldable pub takes : ℕ → ℕ → ℕ → ℕ → Bool
-  takes p v c q = eqb (runsOn g v) c && (leb p q && ltb q (p + hold (g .class c)))
-
-  -- a start given at p adds one to each step that it occupies
-  pub in-use-set : (s : List ℕ) (v p : ℕ) → v < g .graph .nodes → v < length s → startAt s v ≡ 0 → 1 ≤ p
-      → (c q : ℕ) → inUse g (set s v p) c q ≡ inUse g s c q + pick (takes p v c q) 1 0
-  unfolding inUse uses takes
-  in-use-set s v p l m z one c q =
-      let before : uses g s c q v ≡ false = rw z in
-      let after : uses g (set s v p) c q v ≡ takes p v c q = rw (getD-set-same s v p 0 m, lt-ltb 0 p one) in
-      omega (
-        arith,
-        count-one (uses g (set s v p) c q) (uses g s c q) v (λ w ne. uses-other s c q v p w ne) (g .graph .nodes) l,
-        pick-false {A = ℕ} (uses g s c q v) 1 0 before,
-        ap (λ b. pick {A = ℕ} b 1 0) after,
-      )
-
   -- where a unit is free no step is over its units for it
-  pub set-units : (s : List ℕ) (p v : ℕ) → free g s p v ≡ true → startAt s v ≡ 0
+  pub set-units : (s : List ℕ) (p v : ℕ) → free g s p v ≡ true → startNumber s v ≡ 0
       → (c q : ℕ) → inUse g s c q ≤ g .class c .units → inUse g (set s v p) c q ≤ g .class c .units
   unfolding inUse
   set-units s p v e z c q ok = go (decLt v (g .graph .nodes)) (uses g (set s v p) c q v) refl
@@ -90,7 +71,7 @@ module _ (g : Loop) where
           omega (arith, count-same (uses g (set s v p) c q) (uses g s c q) (g .graph .nodes) (λ w m. uses-other s c q v p w (omega arith)))
       go (yes l) true h =
           let o = uses-told (set s v p) c q v h in
-          let at : startAt (set s v p) v ≡ p = ⊎-elim (λ w. w .1) (λ w. absurd (omega (arith, o .placed))) (set-view s v p v) in
+          let at : startNumber (set s v p) v ≡ p = ⊎-elim (λ w. w .1) (λ w. absurd (omega (arith, o .placed))) (set-view s v p v) in
           let room : inUse g s c q < g .class c .units =
           subst (λ (d : ℕ). inUse g s d q < g .class d .units) (o .class) (free-room s p v e q (omega (arith, o .since)) (omega (arith, o .until, ap (λ d. hold (g .class d)) (o .class)))) in
           omega (
@@ -140,9 +121,9 @@ module _ (g : Loop) where
   zeros-units r n c q = rule-units r c q (replicate n 0) (omega (arith, zeros-in-use n c q))
 
   -- where every node is placed, the units in use are those that the pair's nodes occupy
-  pub in-use-busy : (s : List ℕ) (p : Pair) → Sound g → p .kind ≡ plain → Bodied g p → ((v : ℕ) → v < g .graph .nodes → 0 < startAt s v) → ((v : ℕ) → v < g .graph .nodes → p .start v ≡ startAt s v)
+  pub in-use-busy : (s : List ℕ) (p : Pair) → Sound g → p .kind ≡ plain → Bodied g p → ((v : ℕ) → v < g .graph .nodes → 0 < startNumber s v) → ((v : ℕ) → v < g .graph .nodes → p .start v ≡ startNumber s v)
       → (c q : ℕ) → busy g p c q ≡ inUse g s c q
   unfolding inUse spans uses
   in-use-busy s p sound k b placed same c q =
       sym (busy-plain g p sound k b c q)
-      ∙ count-same (spans g p c q) (uses g s c q) (g .graph .nodes) (λ v l. rw (same v l, lt-ltb 0 (startAt s v) (placed v l)))
+      ∙ count-same (spans g p c q) (uses g s c q) (g .graph .nodes) (λ v l. rw (same v l, lt-ltb 0 (startNumber s v) (placed v l)))

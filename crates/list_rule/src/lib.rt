@@ -14,8 +14,8 @@ ghost use Rattle.legal.specs.Loop.{loopOf};
 ghost use Rattle.tables.specs.Edges.{Ends as EdgesIn};
 ghost use Rattle.reach.specs.Weight.{weight as weightIn};
 ghost use Rattle.list_rule.specs.Order.{insert as insertIn, orderOf};
-ghost use Rattle.list_rule.specs.Rule.{startAt, listRule};
-ghost use Rattle.list_rule.specs.Tables.{numbersOf, startsOf, weightOf, Ends, Raised, Used, Waits, blocksAt};
+ghost use Rattle.list_rule.specs.Rule.{startNumber, listRule};
+ghost use Rattle.list_rule.specs.Tables.{numbersOf, startsOf, weightOf, EndsInBody, Raised, Used, WaitsTabled, blocksAt};
 use form::BodyStep;
 use form::Class;
 use form::Form;
@@ -101,7 +101,7 @@ fn raise(busy: &mut [u8; 4128], begins: u16, class: u8, hold: u16)
 
 // The units in use by the starts of the form.
 fn busy_of(form: Form) -> [u8; 4128]
-    requires { ⌜ WellFormed form × Ends form ⌝ }
+    requires { ⌜ WellFormed form × EndsInBody form ⌝ }
     ensures { λ r. ⌜ Used form (startsOf form) (form .nodes) r ⌝ }
 {
     let mut busy = idle();
@@ -117,7 +117,7 @@ fn busy_of(form: Form) -> [u8; 4128]
 // How many nodes are not placed.
 fn unplaced(nodes: u8, start: [BodyStep; 64]) -> u8
     requires { ⌜ nodes ≤ 64 ⌝ }
-    ensures { λ r. ⌜ r ≡ count (λ v. eqb (startAt (numbersOf start) v) 0) (span 0 nodes) ⌝ }
+    ensures { λ r. ⌜ r ≡ count (λ v. eqb (startNumber (numbersOf start) v) 0) (span 0 nodes) ⌝ }
 {
     let mut left: u8 = 0;
     for v in 0..nodes {
@@ -156,7 +156,7 @@ fn waiting<'a>(
     step: u16,
 ) -> [u16; 64]
     requires { ⌜ EdgesIn 64 edges (now from) (now to) ⌝ }
-    ensures { λ r. ⌜ Waits (now (from .entry)) (now (to .entry)) (now (delays .entry)) (now (retiming .entry)) (now (latency .entry)) (numbersOf start) step edges r ⌝ }
+    ensures { λ r. ⌜ WaitsTabled (now (from .entry)) (now (to .entry)) (now (delays .entry)) (now (retiming .entry)) (now (latency .entry)) (numbersOf start) step edges r ⌝ }
 {
     let mut waits = [0u16; 64];
     for e in 0..edges {
@@ -177,7 +177,7 @@ fn waiting<'a>(
 
 // Starts that are not 0 stay; the other nodes are placed.
 pub fn list_rule(form: Form, weight: [u8; 64]) -> [BodyStep; 64]
-    requires { ⌜ WellFormed form × Ends form ⌝ }
+    requires { ⌜ WellFormed form × EndsInBody form ⌝ }
     requires { ⌜ ((v : ℕ) → v < form .nodes → getD weight v 0 ≡ weightIn (loopOf form) (retimingOf form) v) ⌝ }
     ensures { λ r. ⌜ numbersOf r ≡ listRule (loopOf form) (retimingOf form) (startsOf form) ⌝ }
 {

@@ -21,16 +21,7 @@ use Rattle.floor.specs.Parts.{floorLength}
 use Rattle.listing.specs.declared.Listed.{Listed}
 use Rattle.text.specs.Decimal.{decimal, newline}
 use Rattle.text.specs.Words.{refusedWord, retimingText}
-use Rattle.listing.specs.Text.{
-  markLine,
-  nodesWord,
-  edgesWord,
-  lengthWord,
-  depthWord,
-  floorWord,
-  shortestWord,
-  openWord,
-}
+use Rattle.listing.specs.Text.{markLine, nodesWord, edgesWord, lengthWord, depthWord, floorWord, shortestWord, openWord}
 
 -- a table as a function
 abbrev pub cell : List ℕ → ℕ → ℕ

@@ -6,15 +6,12 @@ use mathlib.Core.Logic.{⊎-elim}
 use mathlib.Core.List.{List}
 use Prim.Native.Nat.{ℕ, _+_, _-_, _*_, _≤_, _<_}
 use native.Mathlib.Omega.{arith}
-use lib.ListN.{length, getD}
+use lib.ListN.{length}
 use Rattle.answer.specs.declared.Refusal.the-variants.{None}
 use Rattle.legal.specs.Loop.{Loop, Pair, runsOn}
 use Rattle.legal.specs.Legal.{Legal}
 use Rattle.legal.specs.Shape.{Sound, Starting, bodied-within}
-use Rattle.legal.specs.Paced.{legal-free}
-use Rattle.machine.specs.Values.{placeOf}
 use Rattle.machine.specs.Plain.{PlainLoop}
-use Rattle.machine.specs.Unique.{unique}
 use Rattle.machine.specs.Run.{Machine, issues, iteration, runOf}
 use Rattle.machine.specs.Moments.{issueStep, moment, IssuedAt, issues-step}
 use Rattle.machine.specs.Visits.{Clear}
@@ -69,8 +66,3 @@ module _ (g : Loop) (p : Pair) (s : Sound g) (classed : Classed g) (legal : Lega
     -- and its values are the plain loop's
     pub accepted-plain : PlainLoop g starts k (runOf g p starts k values finish .values)
     accepted-plain = run-plain g p s (legal-starting g p s legal) starts k values finish room room′ accepted
-
-    -- and those of every table that is
-    pub accepted-agrees : (ys : List ℕ) → PlainLoop g starts k ys → (i v : ℕ) → i < k → v < g .graph .nodes
-        → getD (runOf g p starts k values finish .values) (placeOf g starts i v) 0 ≡ getD ys (placeOf g starts i v) 0
-    accepted-agrees ys plain = unique g s starts k (runOf g p starts k values finish .values) ys accepted-plain plain (legal-free g p s legal)

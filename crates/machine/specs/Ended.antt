@@ -12,13 +12,13 @@ use Rattle.answer.specs.declared.Refusal.{Refusal}
 use Rattle.answer.specs.declared.Refusal.the-variants.{None, Early, Busy}
 use Rattle.legal.specs.Loop.{Loop, Pair, runsOn}
 use Rattle.legal.specs.Shape.{Sound, Starting}
-use Rattle.machine.specs.Run.{Machine, issues, lateEdge, held, visit, runSteps, runOf}
-use Rattle.machine.specs.Visits.{halted, written, Visited, idle, early, busy, goes, visited, stays, through-steps}
+use Rattle.machine.specs.Run.{Machine, issues, lateEdge, heldNow, visit, runSteps, runOf}
+use Rattle.machine.specs.Visits.{halted, afterIssue, Visited, idle, early, busy, goes, visited, stays, through-steps}
 use Rattle.machine.specs.Sofar.{Sofar}
 use Rattle.machine.specs.Begins.{cleared-length, cleared-rest, blank, begins, keeps}
 
 -- a buffer keeps its length, and its places from n on
-pub record Kept (n : ℕ) (before after : List ℕ) : Type 0 where
+pub record KeptFrom (n : ℕ) (before after : List ℕ) : Type 0 where
   pub long : length after ≡ length before
   pub rest : (x : ℕ) → n ≤ x → getD after x 0 ≡ getD before x 0
 
@@ -28,7 +28,7 @@ module _ (g : Loop) (p : Pair) (starts : List ℕ) (k : ℕ) where
   Why m t v =
       ((m .refusal ≡ Early t v (lateEdge g p starts k (m .finish) t v)) × (lateEdge g p starts k (m .finish) t v < g .graph .edges))
       ⊎ ((m .refusal ≡ Busy t v (runsOn g v)) × (g .graph .edges ≤ lateEdge g p starts k (m .finish) t v)
-      × (g .class (runsOn g v) .units ≤ held g p starts k (m .finish) (runsOn g v) t))
+      × (g .class (runsOn g v) .units ≤ heldNow g p starts k (m .finish) (runsOn g v) t))
 
   -- a run from m₀ that stopped there
   pub record Halted (m₀ m : Machine) : Type 0 where
@@ -56,14 +56,14 @@ module _ (g : Loop) (p : Pair) (starts : List ℕ) (k : ℕ) where
   halted-stuck m₀ m h = ⊎-elim (λ w. ap fine (w .0)) (λ w. ap fine (w .0)) (h .why)
 
   -- at moment n it goes on, or it has stopped
-  abbrev pub Ends : Machine → ℕ → Machine → Type 0
-  Ends m₀ n m = ((m .refusal ≡ None) × Sofar g p starts k m₀ n m) ⊎ Halted m₀ m
+  abbrev pub EndsAt : Machine → ℕ → Machine → Type 0
+  EndsAt m₀ n m = ((m .refusal ≡ None) × Sofar g p starts k m₀ n m) ⊎ Halted m₀ m
 
   ended-visit : (m₀ m r : Machine) (t v : ℕ) → 1 ≤ t → v < g .graph .nodes → Visited g p starts k t v m r → m .refusal ≡ None
       → Sofar g p starts k m₀ (t * g .graph .nodes + v) m
       → (fine (r .refusal) ≡ true → Sofar g p starts k m₀ (suc (t * g .graph .nodes + v)) r)
-      → Ends m₀ (suc (t * g .graph .nodes + v)) r
-  unfolding fine written
+      → EndsAt m₀ (suc (t * g .graph .nodes + v)) r
+  unfolding fine afterIssue
   ended-visit m₀ m r t v one l (idle q) none f next = inl (none, next (ap fine none))
   ended-visit m₀ m r t v one l (goes q c) none f next = inl (refl, next refl)
   ended-visit m₀ m r t v one l (early q late) none f next =
@@ -74,22 +74,22 @@ module _ (g : Loop) (p : Pair) (starts : List ℕ) (k : ℕ) where
 module _ (g : Loop) (p : Pair) (s : Sound g) (b : Starting g p) (starts : List ℕ) (k : ℕ) (values finish : List ℕ)
     (room : k * g .graph .nodes ≤ length values) (room′ : k * g .graph .nodes ≤ length finish) where
   ended-keeps : (t v : ℕ) (m : Machine) → 1 ≤ t → v < g .graph .nodes
-      → Ends g p starts k (blank g k values finish) (t * g .graph .nodes + v) m
-      → Ends g p starts k (blank g k values finish) (suc (t * g .graph .nodes + v)) (visit g p starts k t m v)
+      → EndsAt g p starts k (blank g k values finish) (t * g .graph .nodes + v) m
+      → EndsAt g p starts k (blank g k values finish) (suc (t * g .graph .nodes + v)) (visit g p starts k t m v)
   unfolding fine
   ended-keeps t v m one l (inl h) =
       let before : fine (m .refusal) ≡ true = ap fine (h .0) in
       ended-visit g p starts k (blank g k values finish) m _ t v one l (visited g p starts k t v m before) (h .0) (h .1)
       (λ after. keeps g p s b starts k values finish room room′ t v m one l before after (h .1))
   ended-keeps t v m one l (inr h) =
-      subst (Ends g p starts k (blank g k values finish) (suc (t * g .graph .nodes + v)))
+      subst (EndsAt g p starts k (blank g k values finish) (suc (t * g .graph .nodes + v)))
       (sym (stays g p starts k t v m (halted-stuck g p starts k (blank g k values finish) m h))) (inr h)
 
   -- every run ends with nothing refused and all issued, or stopped with the earlier issues alone
-  pub ended : Ends g p starts k (blank g k values finish) (suc (runSteps g p starts k) * g .graph .nodes) (runOf g p starts k values finish)
+  pub ended : EndsAt g p starts k (blank g k values finish) (suc (runSteps g p starts k) * g .graph .nodes) (runOf g p starts k values finish)
   unfolding runOf blank
   ended =
-      through-steps g p starts k (Ends g p starts k (blank g k values finish)) ended-keeps (runSteps g p starts k) (blank g k values finish)
+      through-steps g p starts k (EndsAt g p starts k (blank g k values finish)) ended-keeps (runSteps g p starts k) (blank g k values finish)
       (inl (refl, begins g p s b starts k values finish room room′))
 
   -- where nothing is refused all is issued
@@ -103,13 +103,13 @@ module _ (g : Loop) (p : Pair) (s : Sound g) (b : Starting g p) (starts : List �
   ended-sofar = ⊎-elim (λ h. (_, h .1)) (λ h. (_, h .sofar)) ended
 
   -- the buffers keep their places past the run
-  pub values-kept : Kept (k * g .graph .nodes) values (runOf g p starts k values finish .values)
+  pub values-kept : KeptFrom (k * g .graph .nodes) values (runOf g p starts k values finish .values)
   unfolding blank
   values-kept =
       let f = ended-sofar .1 in
       record { long = f .values-length ∙ cleared-length _ values; rest = λ x h. f .rest-values x h ∙ cleared-rest _ values x h }
 
-  pub finish-kept : Kept (k * g .graph .nodes) finish (runOf g p starts k values finish .finish)
+  pub finish-kept : KeptFrom (k * g .graph .nodes) finish (runOf g p starts k values finish .finish)
   unfolding blank
   finish-kept =
       let f = ended-sofar .1 in

@@ -12,7 +12,7 @@ use Rattle.lists.specs.Quotient.{divided, rows-below, rows-apart, row-of}
 use Rattle.lists.specs.Inject.{without, without-other, count-without, count-inject}
 use Rattle.form.specs.Hold.{hold}
 use Rattle.legal.specs.Loop.{Loop, Pair, runsOn}
-use Rattle.legal.specs.Shape.{Sound, Within}
+use Rattle.legal.specs.Shape.{Sound, WithinBodies}
 use Rattle.machine.specs.Run.{depth}
 use Rattle.machine.specs.Moments.{under-depth, repOf, issueStep, moment}
 use Rattle.machine.specs.Sofar.{holding, holders, Roomy}
@@ -30,7 +30,7 @@ moment-steps g p i j v w l h =
       | no q ↦ omega arith
     ]
 
-module _ (g : Loop) (p : Pair) (s : Sound g) (r : ℕ) (b : Within g p r) where
+module _ (g : Loop) (p : Pair) (s : Sound g) (r : ℕ) (b : WithinBodies g p r) where
   -- a run step and a node tell the iteration
   pub step-apart : (i j v : ℕ) → v < g .graph .nodes → issueStep g p i v ≡ issueStep g p j v → i ≡ j
   unfolding issueStep repOf

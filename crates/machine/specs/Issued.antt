@@ -18,7 +18,7 @@ use Rattle.machine.specs.Values.{placeOf, computed}
 use Rattle.machine.specs.Run.{Machine, issues, iteration}
 use Rattle.machine.specs.Reads.{computed-same}
 use Rattle.machine.specs.Moments.{issueStep, moment, IssuedAt, issues-step, step-issues, moment-apart}
-use Rattle.machine.specs.Visits.{Clear, written, Visited, idle, early, busy, goes}
+use Rattle.machine.specs.Visits.{Clear, afterIssue, Visited, idle, early, busy, goes}
 use Rattle.machine.specs.Sofar.{Ready, Issued, Sofar, step-before, held-is, timely-ready}
 
 module _ (g : Loop) (p : Pair) (s : Sound g) (b : Starting g p) (starts : List ℕ) (k : ℕ) (m₀ : Machine) where
@@ -81,8 +81,8 @@ module _ (g : Loop) (p : Pair) (s : Sound g) (b : Starting g p) (starts : List �
       now = step-moment t v (iteration g p starts k t v) (at .step)
 
       -- the node's own place after its issue
-      issued-now : Clear g p starts k t v m → Issued g p starts k (written g p starts k t v m) (iteration g p starts k t v) v
-      unfolding written
+      issued-now : Clear g p starts k t v m → Issued g p starts k (afterIssue g p starts k t v m) (iteration g p starts k t v) v
+      unfolding afterIssue
       issued-now c =
           let i : ℕ = iteration g p starts k t v in
           let n : ℕ = t * g .graph .nodes + v in
@@ -97,8 +97,8 @@ module _ (g : Loop) (p : Pair) (s : Sound g) (b : Starting g p) (starts : List �
           }
 
       -- what was issued before stays so
-      issued-still : (j w : ℕ) → j < k → w < g .graph .nodes → moment g p j w < t * g .graph .nodes + v → Issued g p starts k (written g p starts k t v m) j w
-      unfolding written
+      issued-still : (j w : ℕ) → j < k → w < g .graph .nodes → moment g p j w < t * g .graph .nodes + v → Issued g p starts k (afterIssue g p starts k t v m) j w
+      unfolding afterIssue
       issued-still j w one a h =
           let i : ℕ = iteration g p starts k t v in
           let n : ℕ = t * g .graph .nodes + v in
@@ -112,8 +112,8 @@ module _ (g : Loop) (p : Pair) (s : Sound g) (b : Starting g p) (starts : List �
             roomy = d .roomy;
           }
 
-      goes-keeps : Clear g p starts k t v m → Sofar g p starts k m₀ (suc (t * g .graph .nodes + v)) (written g p starts k t v m)
-      unfolding written
+      goes-keeps : Clear g p starts k t v m → Sofar g p starts k m₀ (suc (t * g .graph .nodes + v)) (afterIssue g p starts k t v m)
+      unfolding afterIssue
       goes-keeps c =
           let i : ℕ = iteration g p starts k t v in
           let n : ℕ = t * g .graph .nodes + v in
@@ -122,7 +122,7 @@ module _ (g : Loop) (p : Pair) (s : Sound g) (b : Starting g p) (starts : List �
             finish-length = length-set (m .finish) _ _ ∙ f .finish-length;
             done = λ j w one a h. ⊎-elim
                 (λ e. let y = moment-apart g p s b starts k j i w v a l (e ∙ sym now) in
-                subst₂ (Issued g p starts k (written g p starts k t v m)) (sym (y .0)) (sym (y .1)) (issued-now c))
+                subst₂ (Issued g p starts k (afterIssue g p starts k t v m)) (sym (y .0)) (sym (y .1)) (issued-now c))
                 (λ e. issued-still j w one a e)
                 (eq-or-lt-of-le (le-of-suc-le-suc h));
             undone = λ j w one a h. record {

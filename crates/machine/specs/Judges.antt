@@ -9,7 +9,7 @@ use lib.ListN.{length}
 use Rattle.answer.specs.declared.Refusal.the-variants.{None}
 use Rattle.form.specs.declared.Form.{Form}
 use Rattle.form.specs.Ranges.{WellFormed}
-use Rattle.legal.specs.Loop.{loopOf, pairOf, graphOf, reach}
+use Rattle.legal.specs.Loop.{loopOf, pairOf, graphOf, bodies}
 use Rattle.legal.specs.Shape.{sound-form, placed-form}
 use Rattle.legal.specs.Judging.{judgeOf}
 use Rattle.legal.specs.Judged.{judge-accepts, accepts-judge}
@@ -35,7 +35,7 @@ module _ (f : Form) (w : WellFormed f) (starts : List ℕ) (k : ℕ) (values fin
 
   -- a schedule that the judge refuses is stuck from depth + 1 iterations on
   pub refused-stuck : f .length ≢ 0 → judgeOf f ≢ None → depth (loopOf f) (pairOf f) + 1 ≤ k → runOf (loopOf f) (pairOf f) starts k values finish .refusal ≢ None
-  unfolding pairOf reach
+  unfolding pairOf bodies
   refused-stuck n no-judge deep goes-on =
       no-judge (accepts-judge f w n
       (unrefused-legal (loopOf f) (pairOf f) (sound-form f w) (placed-form f w n) starts k values finish room room′ (omega arith) goes-on))

@@ -15,7 +15,7 @@ use Rattle.lists.specs.Quotient.{divided, rows-below, rows-apart, row-of}
 use Rattle.lists.specs.Inject.{without, without-other, without-same, count-without, count-inject}
 use Rattle.form.specs.Hold.{hold}
 use Rattle.legal.specs.Loop.{Loop, Pair, runsOn, latency}
-use Rattle.legal.specs.Shape.{Sound, Within}
+use Rattle.legal.specs.Shape.{Sound, WithinBodies}
 use Rattle.legal.specs.Limits.{EdgeRules}
 use Rattle.machine.specs.Run.{depth}
 use Rattle.machine.specs.Moments.{under-depth, repOf, issueStep, moment}
@@ -24,7 +24,7 @@ use Rattle.machine.specs.Timing.{Holder, holder-holding, steps-rule}
 use Rattle.legal.specs.Legal.{busy}
 use Rattle.legal.specs.Busy.{hold-short, occupies, Occupant, occupies-tells, busy-table}
 
-module _ (g : Loop) (p : Pair) (s : Sound g) (r : ℕ) (b : Within g p r) (starts : List ℕ) (k : ℕ) (deep : depth g p + r ≤ k) where
+module _ (g : Loop) (p : Pair) (s : Sound g) (r : ℕ) (b : WithinBodies g p r) (starts : List ℕ) (k : ℕ) (deep : depth g p + r ≤ k) where
   -- ---- the edge rule
 
   -- every edge keeps the edge rule: by the run where its delay is below the number of iterations, else by the reach alone

@@ -7,18 +7,18 @@ use Prim.Native.Nat.{ℕ, _+_, _*_, _≤_, _<_}
 use native.Mathlib.Omega.{arith}
 use lib.ListN.{length}
 use Rattle.answer.specs.declared.Refusal.the-variants.{None}
-use Rattle.legal.specs.Loop.{Loop, Pair, reach}
+use Rattle.legal.specs.Loop.{Loop, Pair, bodies}
 use Rattle.legal.specs.Legal.{Legal, EdgeRule, Knot, busy}
-use Rattle.legal.specs.Shape.{Sound, Placed, Within, bodied-within}
+use Rattle.legal.specs.Shape.{Sound, Placed, WithinBodies, bodied-within}
 use Rattle.legal.specs.Paced.{legal-free}
 use Rattle.machine.specs.Run.{depth, runOf}
 use Rattle.machine.specs.NotStuck.{run-issued}
 use Rattle.machine.specs.Meets.{ready-edges, roomy-units}
 
 module _ (g : Loop) (p : Pair) (s : Sound g) (b : Placed g p) (starts : List ℕ) (k : ℕ) (values finish : List ℕ)
-    (room : k * g .graph .nodes ≤ length values) (room′ : k * g .graph .nodes ≤ length finish) (deep : depth g p + reach (p .kind) ≤ k)
+    (room : k * g .graph .nodes ≤ length values) (room′ : k * g .graph .nodes ≤ length finish) (deep : depth g p + bodies (p .kind) ≤ k)
     (goes-on : runOf g p starts k values finish .refusal ≡ None) where
-  in-bodies : Within g p (reach (p .kind))
+  in-bodies : WithinBodies g p (bodies (p .kind))
   in-bodies = bodied-within g p s (b .body)
 
   -- no step of the body holds more of any class than its units
@@ -38,7 +38,7 @@ module _ (g : Loop) (p : Pair) (s : Sound g) (b : Placed g p) (starts : List ℕ
   }
 
 module _ (g : Loop) (p : Pair) (s : Sound g) (b : Placed g p) (starts : List ℕ) (k : ℕ) (values finish : List ℕ)
-    (room : k * g .graph .nodes ≤ length values) (room′ : k * g .graph .nodes ≤ length finish) (deep : depth g p + reach (p .kind) ≤ k) where
+    (room : k * g .graph .nodes ≤ length values) (room′ : k * g .graph .nodes ≤ length finish) (deep : depth g p + bodies (p .kind) ≤ k) where
   -- a pair that is not legal is refused
   pub refused : (Legal g p → ⊥) → runOf g p starts k values finish .refusal ≢ None
   refused h goes-on = h (unrefused-legal g p s b starts k values finish room room′ deep goes-on)

@@ -63,15 +63,15 @@ module _ (g : Loop) (p : Pair) (starts : List ℕ) (k : ℕ) where
       && (eqb (runsOn g (at % g .graph .nodes)) c && ltb t (getD finish at 0 - latency g (at % g .graph .nodes) + hold (g .class c)))
 
   -- how many earlier issues do
-  unfoldable pub held : List ℕ → ℕ → ℕ → ℕ
-  held finish c t = count (holds finish c t) (span 0 (k * g .graph .nodes))
+  unfoldable pub heldNow : List ℕ → ℕ → ℕ → ℕ
+  heldNow finish c t = count (holds finish c t) (span 0 (k * g .graph .nodes))
 
   -- node v in run step t: Early, then Busy, else its value and its finish step are written
   unfoldable pub issue : Machine → ℕ → ℕ → Machine
   issue m t v =
       pick (ltb (lateEdge (m .finish) t v) (g .graph .edges))
       (record { values = m .values; finish = m .finish; refusal = Early t v (lateEdge (m .finish) t v) })
-      (pick (ltb (held (m .finish) (runsOn g v) t) (g .class (runsOn g v) .units))
+      (pick (ltb (heldNow (m .finish) (runsOn g v) t) (g .class (runsOn g v) .units))
       (record {
         values = set (m .values) (placeOf g starts (iteration t v) v) (computed g starts (m .values) (iteration t v) v);
         finish = set (m .finish) (placeOf g starts (iteration t v) v) (t + latency g v);

@@ -21,7 +21,7 @@ use Rattle.form.specs.Hold.{hold}
 use Rattle.legal.specs.Loop.{Loop, Pair, runsOn, latency}
 use Rattle.legal.specs.Shape.{Sound}
 use Rattle.machine.specs.Values.{placeOf, computed}
-use Rattle.machine.specs.Run.{Machine, iteration, late, lateEdge, holds, held}
+use Rattle.machine.specs.Run.{Machine, iteration, late, lateEdge, holds, heldNow}
 use Rattle.machine.specs.Moments.{issueStep, moment}
 
 module _ (g : Loop) (p : Pair) (starts : List ℕ) (k : ℕ) where
@@ -88,8 +88,8 @@ module _ (g : Loop) (p : Pair) (s : Sound g) (starts : List ℕ) (k : ℕ) (m₀
       ]
 
   -- the earlier issues that hold a unit are known by their moments and steps
-  pub held-is : (c t : ℕ) → held g p starts k (m .finish) c t ≡ holders g p starts k n c t
-  unfolding held holders
+  pub held-is : (c t : ℕ) → heldNow g p starts k (m .finish) c t ≡ holders g p starts k n c t
+  unfolding heldNow holders
   held-is c t = count-same (holds g p starts k (m .finish) c t) (holding g p starts k n c t) (k * g .graph .nodes) (holds-is c t)
 
   -- edge e is late unless its value finished by then

@@ -14,7 +14,7 @@ use Rattle.answer.specs.declared.Refusal.the-variants.{None, Early, Busy}
 use Rattle.legal.specs.Loop.{Loop, Pair, runsOn, latency}
 use Rattle.machine.specs.Through.{stepBy, ranBy, through}
 use Rattle.machine.specs.Values.{placeOf, computed}
-use Rattle.machine.specs.Run.{Machine, issues, iteration, lateEdge, held, issue, visit, stepOf, ran}
+use Rattle.machine.specs.Run.{Machine, issues, iteration, lateEdge, heldNow, issue, visit, stepOf, ran}
 
 -- a machine stopped, with its tables as they are
 abbrev pub halted : Machine → Refusal → Machine
@@ -24,11 +24,11 @@ module _ (g : Loop) (p : Pair) (starts : List ℕ) (k : ℕ) where
   -- node v finds its operands finished and a unit in run step t
   pub record Clear (t v : ℕ) (m : Machine) : Type 0 where
     pub timely : g .graph .edges ≤ lateEdge g p starts k (m .finish) t v
-    pub unit : held g p starts k (m .finish) (runsOn g v) t < g .class (runsOn g v) .units
+    pub unit : heldNow g p starts k (m .finish) (runsOn g v) t < g .class (runsOn g v) .units
 
   -- the machine with node v issued in run step t
-  unfoldable pub written : ℕ → ℕ → Machine → Machine
-  written t v m = record {
+  unfoldable pub afterIssue : ℕ → ℕ → Machine → Machine
+  afterIssue t v m = record {
     values = set (m .values) (placeOf g starts (iteration g p starts k t v) v) (computed g starts (m .values) (iteration g p starts k t v) v);
     finish = set (m .finish) (placeOf g starts (iteration g p starts k t v) v) (t + latency g v);
     refusal = None;
@@ -40,16 +40,16 @@ module _ (g : Loop) (p : Pair) (starts : List ℕ) (k : ℕ) where
     early : issues g p starts k t v ≡ true → lateEdge g p starts k (m .finish) t v < g .graph .edges
         → Visited t v m (halted m (Early t v (lateEdge g p starts k (m .finish) t v)))
     busy : issues g p starts k t v ≡ true → g .graph .edges ≤ lateEdge g p starts k (m .finish) t v
-        → g .class (runsOn g v) .units ≤ held g p starts k (m .finish) (runsOn g v) t
+        → g .class (runsOn g v) .units ≤ heldNow g p starts k (m .finish) (runsOn g v) t
         → Visited t v m (halted m (Busy t v (runsOn g v)))
-    goes : issues g p starts k t v ≡ true → Clear t v m → Visited t v m (written t v m)
+    goes : issues g p starts k t v ≡ true → Clear t v m → Visited t v m (afterIssue t v m)
 
   issue-visited : (t v : ℕ) (m : Machine) → issues g p starts k t v ≡ true → Visited t v m (issue g p starts k m t v)
-  unfolding issue written
+  unfolding issue afterIssue
   issue-visited t v m q =
       pick-ind (Visited t v m) (ltb (lateEdge g p starts k (m .finish) t v) (g .graph .edges)) _ _
       (λ e. early q (ltb-true _ _ e))
-      (λ e. pick-ind (Visited t v m) (ltb (held g p starts k (m .finish) (runsOn g v) t) (g .class (runsOn g v) .units)) _ _
+      (λ e. pick-ind (Visited t v m) (ltb (heldNow g p starts k (m .finish) (runsOn g v) t) (g .class (runsOn g v) .units)) _ _
       (λ f. goes q (record { timely = ltb-false _ _ e; unit = ltb-true _ _ f }))
       (λ f. busy q (ltb-false _ _ e) (ltb-false _ _ f)))
 

@@ -14,7 +14,7 @@ use Rattle.form.specs.Hold.{hold}
 use Rattle.legal.specs.Loop.{plain, Pair}
 use Rattle.legal.specs.Small.{small}
 use Rattle.machine.specs.Values.{plus, minus, times, difference, applied, edgesInto, operandBy, computedBy}
-use Rattle.machine.specs.Run.{depth, issues, late, lateEdge, holds, held, issue, visit, stepOf, runSteps, ran, cleared, runOf}
+use Rattle.machine.specs.Run.{depth, issues, late, lateEdge, holds, heldNow, issue, visit, stepOf, runSteps, ran, cleared, runOf}
 
 unfoldable pub smallPair : Pair
 smallPair = record { kind = plain; start = λ v. getD (1 ∷ 1 ∷ 2 ∷ []) v 0; length = 2; retiming = λ v. getD (1 ∷ 0 ∷ 0 ∷ []) v 0 }
@@ -30,5 +30,5 @@ pub worked : (runOf small smallPair smallStarts 3 (replicate 9 7) (replicate 10 
     })
     × (runSteps small smallPair smallStarts 3 ≡ 8)
     × (runSteps small smallPair smallStarts 0 ≡ 2)
-unfolding small smallPair smallStarts pick span count fold top firstFrom fine hold plus minus times difference applied edgesInto operandBy computedBy depth issues late lateEdge holds held issue visit stepOf runSteps ran cleared runOf
+unfolding small smallPair smallStarts pick span count fold top firstFrom fine hold plus minus times difference applied edgesInto operandBy computedBy depth issues late lateEdge holds heldNow issue visit stepOf runSteps ran cleared runOf
 worked = (refl, refl, refl)

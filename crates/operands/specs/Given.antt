@@ -9,7 +9,7 @@ use Rattle.form.specs.declared.Form.{Form}
 use Rattle.form.specs.Places.{nodeOf}
 use Rattle.form.specs.Ranges.{WellFormed}
 use Rattle.legal.specs.Loop.{loopOf, graphOf}
-use Rattle.operands.specs.Tables.{Fits, Tells, Follows}
+use Rattle.operands.specs.Tables.{TailsLinked, Tells, Follows}
 
 -- the form's edges linked
 abbrev pub LinksOf : Form → List ℕ → List ℕ → Type 0
@@ -20,7 +20,7 @@ unfolding loopOf graphOf
 form-tells f = record { all-nodes = refl; all-edges = refl; is-tail = λ e l. refl; is-delay = λ e l. refl }
 
 module _ (f : Form) (first next : List ℕ) (k : LinksOf f first next) where
-  pub links-fit : WellFormed f → Fits (f .nodes) (f .edges) (f .from) (f .delays) next
+  pub links-fit : WellFormed f → TailsLinked (f .nodes) (f .edges) (f .from) (f .delays) next
   links-fit w = record {
     few = w .edges;
     tail-in = λ e l. w .edge e l .from;

@@ -22,7 +22,7 @@ handed nodes starts values i u d =
     (getD values ((i - d) * nodes + u) 0)
 
 -- edges come from nodes, with up to 15 delays; links lead on
-pub record Fits (nodes edges : ℕ) (tails delays next : List ℕ) : Type 0 where
+pub record TailsLinked (nodes edges : ℕ) (tails delays next : List ℕ) : Type 0 where
   pub few : edges ≤ 256
   pub tail-in : (e : ℕ) → e < edges → getD tails e 0 < nodes
   pub delay-in : (e : ℕ) → e < edges → getD delays e 0 ≤ 15

@@ -3,7 +3,7 @@ ghost use mathlib.Core.Path.{_≡_};
 ghost use Prim.Native.Nat.{ℕ, _≤_, _<_};
 ghost use Rattle.legal.specs.Loop.{Loop};
 ghost use Rattle.machine.specs.Values.{plus as plusOf, minus as minusOf, times as timesOf, computed};
-ghost use Rattle.operands.specs.Tables.{HasRoom, handed, Fits, Tells, Follows, Meant};
+ghost use Rattle.operands.specs.Tables.{HasRoom, handed, TailsLinked, Tells, Follows, Meant};
 ghost use Rattle.operands.specs.Combined.{opening, subtracted as subtractedOf, combined as combinedOf, closing};
 use form::Operation;
 use machine::Iteration;
@@ -103,7 +103,7 @@ pub fn value_of<'a>(
     starts: &'a [u32],
     values: &'a [u32],
 ) -> u32
-    requires { ⌜ Fits nodes edges (now from) (now delays) (now next) × HasRoom nodes (iteration .0) (now starts) (now values) × (first ≤ edges) × Meant nodes edges (now from) (now delays) operation first (now next) ⌝ }
+    requires { ⌜ TailsLinked nodes edges (now from) (now delays) (now next) × HasRoom nodes (iteration .0) (now starts) (now values) × (first ≤ edges) × Meant nodes edges (now from) (now delays) operation first (now next) ⌝ }
     ensures { λ r. ⌜ ((g : Loop) (v : ℕ) → Tells g nodes edges (now (from .entry)) (now (delays .entry)) → Follows g v operation first (now (next .entry)) → r ≡ computed g (now (starts .entry)) (now (values .entry)) (iteration .0) v) ⌝ }
 {
     let mut total = opening_of(operation);

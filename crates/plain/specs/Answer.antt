@@ -16,7 +16,7 @@ use Rattle.legal.specs.Loop.{Loop, loopOf, pairOf}
 use Rattle.legal.specs.Systems.{knotted}
 use Rattle.legal.specs.Handed.{Handed}
 use Rattle.machine.specs.Plain.{PlainLoop}
-use Rattle.machine.specs.Ended.{Kept}
+use Rattle.machine.specs.Ended.{KeptFrom}
 use Rattle.plain.specs.declared.Looped.{Looped}
 
 -- the start table has 15 numbers for each node, the values one for each node and iteration
@@ -33,7 +33,7 @@ plainRecord s k starts values = pick (fine (readForm s .refusal)) (plainOf (loop
 -- the values of k iterations stand in the buffer, and its places past them are as they were
 pub record Ran (g : Loop) (k : ℕ) (starts before after : List ℕ) : Type 0 where
   pub plain : PlainLoop g starts k after
-  pub kept : Kept (k * g .graph .nodes) before after
+  pub kept : KeptFrom (k * g .graph .nodes) before after
 
 pub record FormLooped (f : Form) (k : ℕ) (starts before after : List ℕ) (r : Looped) : Type 0 where
   pub refusal : r .refusal ≡ plainOf (loopOf f) k (length starts) (length before)

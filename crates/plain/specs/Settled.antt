@@ -17,7 +17,7 @@ use Rattle.legal.specs.Shape.{Sound}
 use Rattle.machine.specs.Values.{placeOf, computed}
 use Rattle.machine.specs.Plain.{PlainLoop}
 use Rattle.machine.specs.Reads.{computed-same}
-use Rattle.machine.specs.Ended.{Kept}
+use Rattle.machine.specs.Ended.{KeptFrom}
 use Rattle.plain.specs.Looping.{stored, iterated, looped}
 use Rattle.plain.specs.Ascending.{Sorts}
 
@@ -143,5 +143,5 @@ module _ (g : Loop) (s : Sound g) (starts : List ℕ) where
     looped-plain k before room = done-all k before room .meets
 
     -- and the places past them stay
-    pub looped-kept : (k : ℕ) (before : List ℕ) → k * g .graph .nodes ≤ length before → Kept (k * g .graph .nodes) before (looped g starts order k before)
+    pub looped-kept : (k : ℕ) (before : List ℕ) → k * g .graph .nodes ≤ length before → KeptFrom (k * g .graph .nodes) before (looped g starts order k before)
     looped-kept k before room = let d = done-all k before room in record { long = d .long; rest = d .past }

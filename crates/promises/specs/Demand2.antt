@@ -32,7 +32,7 @@ use Rattle.legal.specs.Limits.{EdgeRules}
 use Rattle.legal.specs.Ruled.{LowestEdge, LowestOver}
 use Rattle.legal.specs.Judging.{judgeOf}
 use Rattle.legal.specs.Judged as judging
-use Prim.Native.Nat.{_<_, _-_}
+use Prim.Native.Nat.{_<_}
 use Rattle.lists.specs.Fold.{top}
 use Rattle.legal.specs.Loop.{Loop, Pair}
 use Rattle.legal.specs.Shape.{Sound}
@@ -41,7 +41,7 @@ use Rattle.legal.specs.Fitted.{impossible-unfit}
 use borrow.Author.Tests.{ltb-true}
 use Rattle.lists.specs.Place.{zeros-at}
 use Rattle.legal.specs.Systems.{knotted}
-use Rattle.list_rule.specs.Rule.{startAt, listRule}
+use Rattle.list_rule.specs.Rule.{startNumber, listRule}
 use Rattle.list_rule.specs.Filling as filling
 use Rattle.list_rule.specs.Placed.{rule-places}
 use Rattle.turning.specs.Pairs.{withPair}
@@ -49,7 +49,7 @@ use Rattle.turning.specs.Rotation.{firstForm, rotatedLength, rotated, tooLong}
 use Rattle.turning.specs.FirstLaws as firsts
 use Rattle.turning.specs.RotatedLaws as rotations
 use Rattle.search.specs.Search.{searched}
-use Rattle.search.specs.Met.{met, Ends, Shortest, searched-ends, searched-shortest}
+use Rattle.search.specs.Met.{met, SearchEnds, Shortest, searched-ends, searched-shortest}
 use Rattle.search.specs.Laws as searches
 use Rattle.fit.specs.Retimed.{fittedForm}
 use Rattle.fit.specs.Fitting.{fitOf}
@@ -64,9 +64,9 @@ use Rattle.system.specs.System.{System, Solves, LosingWalk}
 use Rattle.system.specs.Rounds.{settledOf}
 use Rattle.system.specs.Laws as settling
 use Rattle.system.specs.Walks.{sound}
-use Rattle.legal.specs.Shape.{Bodied, Within as EndsWithin, bodied-within}
+use Rattle.legal.specs.Shape.{Bodied, WithinBodies as EndsWithin, bodied-within}
 use Rattle.legal.specs.Knots.{knot-impossible}
-use Rattle.legal.specs.Fitted.{depth, Settles, depth-bound}
+use Rattle.legal.specs.Fitted.{fittedDepth, Settles, depth-bound}
 use Rattle.legal.specs.Paced.{latencies}
 use Rattle.floor.specs.Bounds.{latency-bound, cycle-bound, floor-bound}
 use Rattle.floor.specs.Busy.{units-bound}
@@ -176,7 +176,7 @@ pub knot-unfit : (g : Loop) (p : Pair) → Sound g → Bodied g p → (es : List
 knot-unfit g p s b = knot-impossible g p s _ (bodied-within g p s b)
 
 -- the depth of a retiming that is given never exceeds 63, where the operations end in the body
-pub fitted-shallow : (g : Loop) (p : Pair) → Sound g → Settles g p → EndsWithin g p 1 → depth g p ≤ 63
+pub fitted-shallow : (g : Loop) (p : Pair) → Sound g → Settles g p → EndsWithin g p 1 → fittedDepth g p ≤ 63
 fitted-shallow g p s q b = depth-bound g p s q 1 b
 
 -- ---- the system behind knots, fits and the floor
@@ -255,7 +255,7 @@ weight-once = numbers-once
 
 -- the list rule places every node, from starts that end by step 511
 pub list-rule-places : (g : Loop) (r : ℕ → ℕ) → Sound g → filling.Staffed g → filling.Ranked g r → (s : List ℕ) (m : ℕ) → filling.Within g s m → m ≤ 511
-    → (v : ℕ) → v < g .graph .nodes → 1 ≤ startAt (listRule g r s) v
+    → (v : ℕ) → v < g .graph .nodes → 1 ≤ startNumber (listRule g r s) v
 list-rule-places g r sound staffed ranked s m within l v h = rule-places g r sound staffed ranked s m within l .placed v h
 
 -- ---- rotations, of a well-formed form with a legal pair
@@ -278,7 +278,7 @@ module _ (f : Form) (w : WellFormed f) (legal : Legal (loopOf f) (pairOf f)) (z 
 -- ---- searches, of a well-formed form without a knot, by up to c rotations of size z
 
 -- where a search ends: at the first pair at which it stops, else after c rotations
-pub search-ends : (f : Form) (c z : ℕ) → Ends f z c (searched f c z .rotations)
+pub search-ends : (f : Form) (c z : ℕ) → SearchEnds f z c (searched f c z .rotations)
 search-ends f c z = searched-ends f z c
 
 -- it answers the shortest of the pairs met, the earliest among equals

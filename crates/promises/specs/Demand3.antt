@@ -30,7 +30,7 @@ use Rattle.machine.specs.Plain.{PlainLoop}
 use Rattle.machine.specs.Run.{depth, runSteps, runOf}
 use Rattle.machine.specs.Unique.{unique}
 use Rattle.machine.specs.Begins.{blank}
-use Rattle.machine.specs.Ended.{Kept, Ends, ended, values-kept, finish-kept}
+use Rattle.machine.specs.Ended.{KeptFrom, EndsAt, ended, values-kept, finish-kept}
 use Rattle.machine.specs.Judges as judges
 use Rattle.plain.specs.declared.Looped.{Looped}
 use Rattle.plain.specs.Answer.{RecordLooped}
@@ -139,11 +139,11 @@ module _ (s : List ℕ) (bytes : Bytes s) (k : ℕ) (starts values₀ finish₀ 
 -- with every node of every iteration issued in its run step, or stopped with the earlier issues alone; places past the run stay
 module _ (g : Loop) (p : Pair) (s : Sound g) (b : Starting g p) (starts : List ℕ) (k : ℕ) (values finish : List ℕ)
     (room : k * g .graph .nodes ≤ length values) (room′ : k * g .graph .nodes ≤ length finish) where
-  pub run-ends : Ends g p starts k (blank g k values finish) (suc (runSteps g p starts k) * g .graph .nodes) (runOf g p starts k values finish)
+  pub run-ends : EndsAt g p starts k (blank g k values finish) (suc (runSteps g p starts k) * g .graph .nodes) (runOf g p starts k values finish)
   run-ends = ended g p s b starts k values finish room room′
 
-  pub run-keeps-values : Kept (k * g .graph .nodes) values (runOf g p starts k values finish .values)
+  pub run-keeps-values : KeptFrom (k * g .graph .nodes) values (runOf g p starts k values finish .values)
   run-keeps-values = values-kept g p s b starts k values finish room room′
 
-  pub run-keeps-finish : Kept (k * g .graph .nodes) finish (runOf g p starts k values finish .finish)
+  pub run-keeps-finish : KeptFrom (k * g .graph .nodes) finish (runOf g p starts k values finish .finish)
   run-keeps-finish = finish-kept g p s b starts k values finish room room′

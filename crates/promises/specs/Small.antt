@@ -40,11 +40,11 @@ use Rattle.turning.specs.Worked.{smallForm, pairIn}
 use Rattle.search.specs.Search.{halved, stops, shorter, turn, begun, searchFrom, searched}
 use Rattle.search.specs.Searching.{searchAsked, searchForm, searchTurns}
 use Rattle.machine.specs.Values.{plus, minus, times, difference, applied, edgesInto, operandBy, computedBy}
-use Rattle.machine.specs.Run.{Machine, depth, issues, late, lateEdge, holds, held, issue, visit, stepOf, runSteps, ran, cleared, runOf}
+use Rattle.machine.specs.Run.{Machine, depth, issues, late, lateEdge, holds, heldNow, issue, visit, stepOf, runSteps, ran, cleared, runOf}
 
 -- the small loop with a pair: starts, length and retimings of its three nodes
-unfoldable pub small : List ℕ → ℕ → List ℕ → Form
-small s l r = withPair smallForm (s ++ replicate 61 0) l (r ++ replicate 61 0)
+unfoldable pub smallWith : List ℕ → ℕ → List ℕ → Form
+smallWith s l r = withPair smallForm (s ++ replicate 61 0) l (r ++ replicate 61 0)
 
 -- node 2 starts at 5 (one iteration before the first) and 7 (two before)
 unfoldable pub startTable : List ℕ
@@ -73,16 +73,16 @@ unfoldable pub limitsIn : Form → List ℕ
 limitsIn f = map (loopOf f .delay) (span 0 3) ++ map (lateness (loopOf f) (pairOf f)) (span 0 3)
 
 -- first, rotate: length, starts, retimings; search: rotations before them; floor: floor, part, class; fit: the limits before the refusal
-unfoldable pub answered : Asked → List ℕ
-answered first = answer (firstAsked smallForm) (pairIn (firstForm smallForm))
-answered (rotate z f) = answer (rotateAsked z f) (pairIn (rotated f z))
-answered (search c z) = answer (searchAsked z smallForm) (searchTurns c z smallForm ∷ pairIn (searchForm c z smallForm))
-answered floor =
+unfoldable pub answerTo : Asked → List ℕ
+answerTo first = answer (firstAsked smallForm) (pairIn (firstForm smallForm))
+answerTo (rotate z f) = answer (rotateAsked z f) (pairIn (rotated f z))
+answerTo (search c z) = answer (searchAsked z smallForm) (searchTurns c z smallForm ∷ pairIn (searchForm c z smallForm))
+answerTo floor =
     answer (floorRefusal smallForm)
     (floorLength (loopOf smallForm) ∷ partNumber (partOf (loopOf smallForm)) ∷ partClass (partOf (loopOf smallForm)) ∷ [])
-answered (fit f) = limitsIn f ++ answer (fitOf f) (pairIn (fittedForm f))
-answered (judge f) = answer (judgeOf f) []
-answered (run k f) =
+answerTo (fit f) = limitsIn f ++ answer (fitOf f) (pairIn (fittedForm f))
+answerTo (judge f) = answer (judgeOf f) []
+answerTo (run k f) =
     let m : Machine = runOf (loopOf f) (pairOf f) startTable k (replicate 9 7) (replicate 10 7) in
     answer (m .refusal) (runSteps (loopOf f) (pairOf f) startTable k ∷ (m .values ++ m .finish))
 
@@ -90,32 +90,32 @@ pub record Case : Type 0 where
   pub asked : Asked
   pub given : List ℕ
 
-unfoldable pub table : List Case
-table =
+unfoldable pub worked : List Case
+worked =
     record { asked = first; given = 0 ∷ 0 ∷ 0 ∷ 0 ∷ 4 ∷ 1 ∷ 3 ∷ 4 ∷ 0 ∷ 0 ∷ 0 ∷ [] }
-    ∷ record { asked = rotate 1 (small (1 ∷ 3 ∷ 4 ∷ []) 4 (0 ∷ 0 ∷ 0 ∷ [])); given = 0 ∷ 0 ∷ 0 ∷ 0 ∷ 3 ∷ 1 ∷ 2 ∷ 3 ∷ 1 ∷ 0 ∷ 0 ∷ [] }
-    ∷ record { asked = rotate 1 (small (1 ∷ 2 ∷ 3 ∷ []) 3 (1 ∷ 0 ∷ 0 ∷ [])); given = 0 ∷ 0 ∷ 0 ∷ 0 ∷ 4 ∷ 3 ∷ 1 ∷ 2 ∷ 1 ∷ 0 ∷ 0 ∷ [] }
-    ∷ record { asked = rotate 2 (small (1 ∷ 2 ∷ 3 ∷ []) 3 (1 ∷ 0 ∷ 0 ∷ [])); given = 0 ∷ 0 ∷ 0 ∷ 0 ∷ 3 ∷ 2 ∷ 2 ∷ 1 ∷ 2 ∷ 1 ∷ 0 ∷ [] }
+    ∷ record { asked = rotate 1 (smallWith (1 ∷ 3 ∷ 4 ∷ []) 4 (0 ∷ 0 ∷ 0 ∷ [])); given = 0 ∷ 0 ∷ 0 ∷ 0 ∷ 3 ∷ 1 ∷ 2 ∷ 3 ∷ 1 ∷ 0 ∷ 0 ∷ [] }
+    ∷ record { asked = rotate 1 (smallWith (1 ∷ 2 ∷ 3 ∷ []) 3 (1 ∷ 0 ∷ 0 ∷ [])); given = 0 ∷ 0 ∷ 0 ∷ 0 ∷ 4 ∷ 3 ∷ 1 ∷ 2 ∷ 1 ∷ 0 ∷ 0 ∷ [] }
+    ∷ record { asked = rotate 2 (smallWith (1 ∷ 2 ∷ 3 ∷ []) 3 (1 ∷ 0 ∷ 0 ∷ [])); given = 0 ∷ 0 ∷ 0 ∷ 0 ∷ 3 ∷ 2 ∷ 2 ∷ 1 ∷ 2 ∷ 1 ∷ 0 ∷ [] }
     ∷ record { asked = search 1 5; given = 0 ∷ 0 ∷ 0 ∷ 0 ∷ 1 ∷ 2 ∷ 1 ∷ 1 ∷ 2 ∷ 1 ∷ 0 ∷ 0 ∷ [] }
     ∷ record { asked = search 0 5; given = 0 ∷ 0 ∷ 0 ∷ 0 ∷ 0 ∷ 4 ∷ 1 ∷ 3 ∷ 4 ∷ 0 ∷ 0 ∷ 0 ∷ [] }
     ∷ record { asked = floor; given = 0 ∷ 0 ∷ 0 ∷ 0 ∷ 2 ∷ 1 ∷ 0 ∷ [] }
-    ∷ record { asked = fit (small (1 ∷ 1 ∷ 1 ∷ []) 2 (0 ∷ 0 ∷ 0 ∷ [])); given = 0 ∷ 0 ∷ 2 ∷ 1 ∷ 1 ∷ 1 ∷ 14 ∷ 0 ∷ 0 ∷ 0 ∷ [] }
-    ∷ record { asked = fit (small (1 ∷ 1 ∷ 2 ∷ []) 2 (0 ∷ 0 ∷ 0 ∷ [])); given = 0 ∷ 0 ∷ 2 ∷ 1 ∷ 0 ∷ 1 ∷ 0 ∷ 0 ∷ 0 ∷ 0 ∷ 2 ∷ 1 ∷ 1 ∷ 2 ∷ 1 ∷ 0 ∷ 0 ∷ [] }
-    ∷ record { asked = judge (small (1 ∷ 1 ∷ 2 ∷ []) 2 (0 ∷ 0 ∷ 0 ∷ [])); given = 13 ∷ 0 ∷ 0 ∷ 0 ∷ [] }
-    ∷ record { asked = rotate 2 (small (1 ∷ 1 ∷ 2 ∷ []) 2 (1 ∷ 0 ∷ 0 ∷ [])); given = 16 ∷ 2 ∷ 0 ∷ 0 ∷ [] }
+    ∷ record { asked = fit (smallWith (1 ∷ 1 ∷ 1 ∷ []) 2 (0 ∷ 0 ∷ 0 ∷ [])); given = 0 ∷ 0 ∷ 2 ∷ 1 ∷ 1 ∷ 1 ∷ 14 ∷ 0 ∷ 0 ∷ 0 ∷ [] }
+    ∷ record { asked = fit (smallWith (1 ∷ 1 ∷ 2 ∷ []) 2 (0 ∷ 0 ∷ 0 ∷ [])); given = 0 ∷ 0 ∷ 2 ∷ 1 ∷ 0 ∷ 1 ∷ 0 ∷ 0 ∷ 0 ∷ 0 ∷ 2 ∷ 1 ∷ 1 ∷ 2 ∷ 1 ∷ 0 ∷ 0 ∷ [] }
+    ∷ record { asked = judge (smallWith (1 ∷ 1 ∷ 2 ∷ []) 2 (0 ∷ 0 ∷ 0 ∷ [])); given = 13 ∷ 0 ∷ 0 ∷ 0 ∷ [] }
+    ∷ record { asked = rotate 2 (smallWith (1 ∷ 1 ∷ 2 ∷ []) 2 (1 ∷ 0 ∷ 0 ∷ [])); given = 16 ∷ 2 ∷ 0 ∷ 0 ∷ [] }
     ∷ record {
-      asked = run 3 (small (1 ∷ 1 ∷ 2 ∷ []) 2 (1 ∷ 0 ∷ 0 ∷ []));
+      asked = run 3 (smallWith (1 ∷ 1 ∷ 2 ∷ []) 2 (1 ∷ 0 ∷ 0 ∷ []));
       given =
           0 ∷ 0 ∷ 0 ∷ 0 ∷ 8
           ∷ 21 ∷ 22 ∷ 22 ∷ 15 ∷ 16 ∷ 16 ∷ 66 ∷ 67 ∷ 67
           ∷ 3 ∷ 4 ∷ 5 ∷ 5 ∷ 6 ∷ 7 ∷ 7 ∷ 8 ∷ 9 ∷ 7 ∷ [];
     }
     ∷ record {
-      asked = run 0 (small (1 ∷ 1 ∷ 2 ∷ []) 2 (1 ∷ 0 ∷ 0 ∷ []));
+      asked = run 0 (smallWith (1 ∷ 1 ∷ 2 ∷ []) 2 (1 ∷ 0 ∷ 0 ∷ []));
       given = 0 ∷ 0 ∷ 0 ∷ 0 ∷ 2 ∷ (replicate 9 7 ++ replicate 10 7);
     }
     ∷ []
 
-pub small-loop : map (λ (c : Case). answered (c .asked)) table ≡ map (λ (c : Case). c .given) table
-unfolding small startTable told answer limitsIn answered table smallForm pairIn emptyForm pick span count fold top firstFrom fine hold graphOf loopOf pairOf busy body.held sumOf knots knotted lateness limits paces breaks brokenEdge over overClass overStep unitsOf rulesOf judgeOf asks raise raiseAll raises everyEdge round settleFrom settledOf topOf turnedAt filled retimings withRetiming fittedForm fitOf latencyPart nodesOn unitsPart unitsParts cyclePart floorLength partOf floorRefusal tight spread sweep reach reachedFrom weight insert orderOf uses inUse free blocks ready place fillStep allPlaced fillFrom listRule lengthOf firstStarts numbersOf startsOf withPair firstForm gainedBy droppedBy turnedStarts rotatedStarts rotatedLength rotated tooLong firstAsked turns rotateAsked halved stops shorter turn begun searchFrom searched searchAsked plus minus times difference applied edgesInto operandBy computedBy depth issues late lateEdge holds held issue visit stepOf runSteps ran cleared runOf
+pub small-loop : map (λ (c : Case). answerTo (c .asked)) worked ≡ map (λ (c : Case). c .given) worked
+unfolding smallWith startTable told answer limitsIn answerTo worked smallForm pairIn emptyForm pick span count fold top firstFrom fine hold graphOf loopOf pairOf busy body.held sumOf knots knotted lateness limits paces breaks brokenEdge over overClass overStep unitsOf rulesOf judgeOf asks raise raiseAll raises everyEdge round settleFrom settledOf topOf turnedAt filled retimings withRetiming fittedForm fitOf latencyPart nodesOn unitsPart unitsParts cyclePart floorLength partOf floorRefusal tight spread sweep reach reachedFrom weight insert orderOf uses inUse free blocks ready place fillStep allPlaced fillFrom listRule lengthOf firstStarts numbersOf startsOf withPair firstForm gainedBy droppedBy turnedStarts rotatedStarts rotatedLength rotated tooLong firstAsked turns rotateAsked halved stops shorter turn begun searchFrom searched searchAsked plus minus times difference applied edgesInto operandBy computedBy depth issues late lateEdge holds heldNow issue visit stepOf runSteps ran cleared runOf
 small-loop = refl

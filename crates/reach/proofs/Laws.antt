@@ -3,7 +3,7 @@
 use mathlib.Core.Path.{_≡_, refl, sym, _∙_, ap}
 use mathlib.Core.Bool.{Bool, true, false}
 use mathlib.Core.List.{List}
-use Prim.Native.Nat.{ℕ, _+_, _-_, _<_}
+use Prim.Native.Nat.{ℕ, _+_, _<_}
 use native.Mathlib.Omega.{arith}
 use native.Mathlib.Nat.{ne-of-lt}
 use lib.Dec.{eqb}
@@ -20,7 +20,7 @@ use Rattle.links.specs.Chains.{Chains, leads-on, leads-in, begins-in}
 use Rattle.legal.specs.Loop.{Loop, graphOf, loopOf}
 use Rattle.legal.specs.Shape.{joined-form}
 use Rattle.reach.specs.Weight.{tight, weight}
-use Rattle.reach.specs.Tables.{Fits, Tells, weightsOf}
+use Rattle.reach.specs.Tables.{HeadsLinked, TellsTight, weightsOf}
 
 -- ---- the tight edges
 
@@ -51,7 +51,7 @@ tights-more f ts e a l is-a all =
 
 module _ (f : Form) where
   pub fits-form : (keys : ℕ → ℕ) (first next heads : List ℕ) → WellFormed f → Chains keys (f .edges) first next
-      → ((e : ℕ) → e < f .edges → getD heads e 0 < 64) → Fits (f .edges) first next heads
+      → ((e : ℕ) → e < f .edges → getD heads e 0 < 64) → HeadsLinked (f .edges) first next heads
   fits-form keys first next heads w c inside = record {
     few = w .edges;
     begins = begins-in keys _ _ _ c;
@@ -62,7 +62,7 @@ module _ (f : Form) where
 
   pub weight-form : (v w : ℕ) (first next ts : List ℕ) → WellFormed f → Chains (λ e. getD (f .from) e 0) (f .edges) first next
       → ((e : ℕ) → e < f .edges → tight (loopOf f) (retimingOf f) e ≡ eqb (getD ts e 0) 1)
-      → ((g : Loop) (r : ℕ → ℕ) → g .graph .nodes ≡ f .nodes → Tells g r (f .edges) first next (f .to) ts → w ≡ weight g r v) → w ≡ weight (loopOf f) (retimingOf f) v
+      → ((g : Loop) (r : ℕ → ℕ) → g .graph .nodes ≡ f .nodes → TellsTight g r (f .edges) first next (f .to) ts → w ≡ weight g r v) → w ≡ weight (loopOf f) (retimingOf f) v
   unfolding loopOf graphOf
   weight-form v w first next ts well c h all =
       all (loopOf f) (retimingOf f) refl

@@ -25,7 +25,7 @@ use Rattle.system.specs.Graph.{Joined, Walk}
 use Rattle.legal.specs.Loop.{Loop}
 use Rattle.reach.specs.Weight.{tight, reachedFrom, weight}
 use Rattle.reach.specs.Reached.{Marked, only, TightWalk, only-reached, walk-on, reached-walk, reached-all}
-use Rattle.reach.specs.Tables.{marked, Tells}
+use Rattle.reach.specs.Tables.{marked, TellsTight}
 use Rattle.reach.specs.Marking.{Queued, Waits, Marking, None, OutFrom, Met}
 
 -- ---- marks counted
@@ -118,7 +118,7 @@ module _ (g : Loop) (r : ℕ → ℕ) (v u : ℕ) where
     pub out-edge : e < g .graph .edges → g .graph .tail e ≡ u
     pub marking : Marking g r v m q from end (OutFrom g u e)
 
-module _ (g : Loop) (r : ℕ → ℕ) (edges : ℕ) (first next heads tights : List ℕ) (t : Tells g r edges first next heads tights) (v u : ℕ) where
+module _ (g : Loop) (r : ℕ → ℕ) (edges : ℕ) (first next heads tights : List ℕ) (t : TellsTight g r edges first next heads tights) (v u : ℕ) where
   module _ (m q : List ℕ) (from end : ℕ) where
     pub half-first : u < 64 → Marked m u → Marking g r v m q from end (OutFrom g u 0) → Halfway g r v u m q from end (getD first u 0)
     half-first small h k = record {
@@ -234,7 +234,7 @@ module _ (g : Loop) (r : ℕ → ℕ) (v : ℕ) (m q : List ℕ) where
   walk-in j s [] u l w = subst (λ (b : ℕ). b < g .graph .nodes) w l
   walk-in j s (e ∷ es) u l w = walk-in j (g .graph .head e) es u (j .heads e (w .0)) (w .2)
 
-  module _ (edges : ℕ) (first next heads tights : List ℕ) (t : Tells g r edges first next heads tights) where
+  module _ (edges : ℕ) (first next heads tights : List ℕ) (t : TellsTight g r edges first next heads tights) where
     -- a node of the loop at each place, no more than there are
     counted-nodes : (from end : ℕ) → Queued m q end → Marking g r v m q from end None → end ≡ marked m (g .graph .nodes)
     counted-nodes from end k h =

@@ -9,7 +9,7 @@ use lib.ListN.{length, getD}
 use Rattle.legal.specs.Loop.{Loop}
 use Rattle.reach.specs.Weight.{tight}
 use Rattle.reach.specs.Reached.{Marked, AllReached}
-use Rattle.reach.specs.Tables.{marked, Tells}
+use Rattle.reach.specs.Tables.{marked, TellsTight}
 
 -- the places before `end` hold marked nodes, as many as there are
 pub record Queued (m q : List ℕ) (end : ℕ) : Type 0 where
@@ -56,19 +56,19 @@ module _ (edges : ℕ) (first next heads tights : List ℕ) where
   pub record Spread (node : ℕ) (m q : List ℕ) (end : ℕ) (m′ q′ : List ℕ) (end′ : ℕ) : Type 0 where
     pub queued : Queued m′ q′ end′
     pub grows : end ≤ end′
-    pub spreads : (g : Loop) (r : ℕ → ℕ) (v from : ℕ) → Tells g r edges first next heads tights → Marked m node
+    pub spreads : (g : Loop) (r : ℕ → ℕ) (v from : ℕ) → TellsTight g r edges first next heads tights → Marked m node
         → Marking g r v m q from end (OutFrom g node 0) → Marking g r v m′ q′ from end′ None
 
   -- the nodes from place `from` on wait no more; those that were marked meanwhile do
   pub record Levelled (from : ℕ) (m q : List ℕ) (to : ℕ) (m′ q′ : List ℕ) (end : ℕ) : Type 0 where
     pub queued : Queued m′ q′ end
     pub grows : to ≤ end
-    pub levels : (g : Loop) (r : ℕ → ℕ) (v : ℕ) → Tells g r edges first next heads tights
+    pub levels : (g : Loop) (r : ℕ → ℕ) (v : ℕ) → TellsTight g r edges first next heads tights
         → Marking g r v m q from to None → Marking g r v m′ q′ to end None
 
   -- no node waits, where there are levels enough for all nodes
   pub record Reaches (from left : ℕ) (m q : List ℕ) (to : ℕ) (m′ q′ : List ℕ) (end : ℕ) : Type 0 where
     pub queued : Queued m′ q′ end
     pub grows : to ≤ end
-    pub reaches : (g : Loop) (r : ℕ → ℕ) (v : ℕ) → Tells g r edges first next heads tights → (from < to → g .graph .nodes < to + left)
+    pub reaches : (g : Loop) (r : ℕ → ℕ) (v : ℕ) → TellsTight g r edges first next heads tights → (from < to → g .graph .nodes < to + left)
         → Marking g r v m q from to None → Marking g r v m′ q′ end end None

@@ -9,15 +9,14 @@ use native.Mathlib.Omega.{arith}
 use lib.Dec.{eqb}
 use lib.ListN.{length, getD}
 use borrow.Author.Tests.{eqb-true, eqb-false, eq-eqb, ne-eqb, not-true}
-use Rattle.lists.specs.Pick.{both-ways}
 use Rattle.lists.specs.Span.{span}
 use Rattle.lists.specs.Fold.{count}
 use Rattle.lists.specs.Count.{count-same}
-use Rattle.lists.specs.Both.{and-both, both-and}
+use Rattle.lists.specs.Both.{and-both}
 use Rattle.system.specs.Graph.{Walk, Joined}
 use Rattle.legal.specs.Loop.{Loop}
 use Rattle.reach.specs.Weight.{tight, reachedFrom, weight}
-use Rattle.reach.specs.Reached.{Marked, TightWalk, reached-near, reached-all, weight-others}
+use Rattle.reach.specs.Reached.{Marked, reached-near, reached-all, weight-others}
 
 -- w is the number of numbers below n of which P holds
 pub record Numbers (P : ℕ → Type 0) (n w : ℕ) : Type 0 where

@@ -2,10 +2,10 @@
 -- Assumes nothing.
 use mathlib.Core.Path.{_≡_}
 use mathlib.Core.List.{List}
-use Prim.Native.Nat.{ℕ, _-_, _≤_, _<_}
+use Prim.Native.Nat.{ℕ, _≤_, _<_}
 use lib.Dec.{eqb}
-use lib.ListN.{length, getD}
-use Rattle.lists.specs.Filled.{filled, filled-at, filled-length}
+use lib.ListN.{getD}
+use Rattle.lists.specs.Filled.{filled, filled-at}
 use Rattle.lists.specs.Span.{span}
 use Rattle.lists.specs.Fold.{count}
 use Rattle.links.specs.Chains.{Chains}
@@ -18,7 +18,7 @@ unfoldable pub marked : List ℕ → ℕ → ℕ
 marked m n = count (λ u. eqb (getD m u 0) 1) (span 0 n)
 
 -- the edges have places in the tables and their heads in the marks, and the links lead on among them
-pub record Fits (edges : ℕ) (first next heads : List ℕ) : Type 0 where
+pub record HeadsLinked (edges : ℕ) (first next heads : List ℕ) : Type 0 where
   pub few : edges ≤ 256
   pub begins : (v : ℕ) → v < 64 → getD first v 0 ≤ edges
   pub leads-on : (e : ℕ) → e < edges → e < getD next e 0
@@ -26,7 +26,7 @@ pub record Fits (edges : ℕ) (first next heads : List ℕ) : Type 0 where
   pub head-in : (e : ℕ) → e < edges → getD heads e 0 < 64
 
 -- the tables hold the loop's edges, linked by their tails, and 1 for those that the retiming makes tight
-pub record Tells (g : Loop) (r : ℕ → ℕ) (edges : ℕ) (first next heads tights : List ℕ) : Type 0 where
+pub record TellsTight (g : Loop) (r : ℕ → ℕ) (edges : ℕ) (first next heads tights : List ℕ) : Type 0 where
   pub joined : Joined (g .graph)
   pub few-nodes : g .graph .nodes ≤ 64
   pub all : g .graph .edges ≡ edges
@@ -42,7 +42,3 @@ weightsOf g r = filled 64 (weight g r) (g .graph .nodes)
 pub weights-at : (g : Loop) (r : ℕ → ℕ) (v : ℕ) → v < g .graph .nodes → getD (weightsOf g r) v 0 ≡ weight g r v
 unfolding weightsOf
 weights-at g r v l = filled-at 64 (weight g r) (g .graph .nodes) v l
-
-pub weights-length : (g : Loop) (r : ℕ → ℕ) → g .graph .nodes ≤ 64 → length (weightsOf g r) ≡ 64
-unfolding weightsOf
-weights-length g r few = filled-length 64 (weight g r) (g .graph .nodes) few

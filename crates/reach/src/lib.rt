@@ -8,16 +8,10 @@ ghost use Rattle.form.specs.Places.{retimingOf};
 ghost use Rattle.form.specs.Ranges.{WellFormed};
 ghost use Rattle.legal.specs.Loop.{Loop, loopOf};
 ghost use Rattle.reach.specs.Weight.{tight, weight};
-ghost use Rattle.reach.specs.Tables.{Fits, Tells, weightsOf};
+ghost use Rattle.reach.specs.Tables.{HeadsLinked, TellsTight, weightsOf};
 ghost use Rattle.reach.specs.Marking.{Queued, Met, Spread, Levelled, Reaches};
 use form::Form;
-
-// A byte as a u16; the bound spares each use a proof.
-fn wide(x: u8) -> u16
-    ensures { λ r. ⌜ (r ≡ x) × (r < 256) ⌝ }
-{
-    x as u16
-}
+use widths::wide;
 
 // 1 for an edge of so many delays whose nodes' retimings make it tight, else 0.
 fn tight_mark(delays: u8, tail: u8, head: u8) -> u8
@@ -73,7 +67,7 @@ fn spread<'a>(
     heads: &'a [u8; 256],
     tights: &'a [u8; 256],
 ) -> u8
-    requires { ⌜ Fits edges (now first) (now next) (now heads) × Queued (now marks) (now queue) from × (node < 64) ⌝ }
+    requires { ⌜ HeadsLinked edges (now first) (now next) (now heads) × Queued (now marks) (now queue) from × (node < 64) ⌝ }
     ensures { λ r. ⌜ Spread edges (now (first .entry)) (now (next .entry)) (now (heads .entry)) (now (tights .entry)) node (now (marks .entry)) (now (queue .entry)) from (now (marks .exit)) (now (queue .exit)) r ⌝ }
 {
     let mut end = from;
@@ -98,7 +92,7 @@ fn level<'a>(
     heads: &'a [u8; 256],
     tights: &'a [u8; 256],
 ) -> u8
-    requires { ⌜ Fits edges (now first) (now next) (now heads) × Queued (now marks) (now queue) to × (from ≤ to) ⌝ }
+    requires { ⌜ HeadsLinked edges (now first) (now next) (now heads) × Queued (now marks) (now queue) to × (from ≤ to) ⌝ }
     ensures { λ r. ⌜ Levelled edges (now (first .entry)) (now (next .entry)) (now (heads .entry)) (now (tights .entry)) from (now (marks .entry)) (now (queue .entry)) to (now (marks .exit)) (now (queue .exit)) r ⌝ }
 {
     let mut end = to;
@@ -122,7 +116,7 @@ fn reach<'a>(
     tights: &'a [u8; 256],
     left: u8,
 ) -> u8
-    requires { ⌜ Fits edges (now first) (now next) (now heads) × Queued (now marks) (now queue) to × (from ≤ to) ⌝ }
+    requires { ⌜ HeadsLinked edges (now first) (now next) (now heads) × Queued (now marks) (now queue) to × (from ≤ to) ⌝ }
     ensures { λ r. ⌜ Reaches edges (now (first .entry)) (now (next .entry)) (now (heads .entry)) (now (tights .entry)) from left (now (marks .entry)) (now (queue .entry)) to (now (marks .exit)) (now (queue .exit)) r ⌝ }
 {
     if left == 0 {
@@ -156,8 +150,8 @@ fn weight_of<'a>(
     heads: &'a [u8; 256],
     tights: &'a [u8; 256],
 ) -> u8
-    requires { ⌜ (v < nodes) × (nodes ≤ 64) × Fits edges (now first) (now next) (now heads) ⌝ }
-    ensures { λ w. ⌜ ((g : Loop) (r : ℕ → ℕ) → g .graph .nodes ≡ nodes → Tells g r edges (now (first .entry)) (now (next .entry)) (now (heads .entry)) (now (tights .entry)) → w ≡ weight g r v) ⌝ }
+    requires { ⌜ (v < nodes) × (nodes ≤ 64) × HeadsLinked edges (now first) (now next) (now heads) ⌝ }
+    ensures { λ w. ⌜ ((g : Loop) (r : ℕ → ℕ) → g .graph .nodes ≡ nodes → TellsTight g r edges (now (first .entry)) (now (next .entry)) (now (heads .entry)) (now (tights .entry)) → w ≡ weight g r v) ⌝ }
 {
     let mut marks = [0u8; 64];
     marks[v as usize] = 1;

@@ -24,36 +24,8 @@ use Rattle.reader.specs.declared.ClassTable.{ClassTable}
 use Rattle.reader.specs.declared.NodeTable.{NodeTable}
 use Rattle.reader.specs.declared.EdgeTable.{EdgeTable}
 use Rattle.reader.specs.declared.StartTable.{StartTable}
-use Rattle.reader.specs.Tables.{
-  headerOf,
-  table,
-  classStep,
-  nodeStep,
-  edgeStep,
-  startStep,
-  Headed,
-  Stage,
-  withClasses,
-  withNodes,
-  withEdges,
-  withStarts,
-  ClassesRead,
-  NodesRead,
-  EdgesRead,
-  StartsRead,
-}
-use Rattle.reader.specs.Reading.{
-  zeroFrom,
-  normalized,
-  retimingOffset,
-  endOf,
-  answered,
-  classesRead,
-  nodesRead,
-  edgesRead,
-  startsRead,
-  readForm,
-}
+use Rattle.reader.specs.Tables.{headerOf, table, classStep, nodeStep, edgeStep, startStep, Headed, Stage, withClasses, withNodes, withEdges, withStarts, ClassesRead, NodesRead, EdgesRead, StartsRead}
+use Rattle.reader.specs.Reading.{zeroFrom, normalized, retimingOffset, endOf, answered, classesRead, nodesRead, edgesRead, startsRead, readForm}
 
 -- an array of structs as a field: its length, from what owning the struct tells
 pub length-mapped : {X Y : Type 0} (f : X → Y) (l : List X) (n : ℕ) → length (map f l) ≡ n → length l ≡ n

@@ -6,7 +6,7 @@ ghost use lib.ListN.{length, getD, replicate};
 ghost use Rattle.lists.specs.Pick.{pick};
 ghost use Rattle.answer.specs.Refused.{fine};
 ghost use Rattle.answer.specs.declared.Refusal.the-variants.{None, Retiming, Tail};
-ghost use Rattle.form.specs.Places.{noClass, noNode, noStep, emptyForm, withCounts, scheduledOf};
+ghost use Rattle.form.specs.Places.{noClass, noStep, emptyForm, withCounts, scheduledOf};
 ghost use Rattle.reader.specs.Rows.{ClassRead, NodeRead, EdgeRead, StartRead, operationOf};
 ghost use Rattle.reader.specs.Tables.{Headed, ClassesRead, NodesRead, EdgesRead, StartsRead, withStarts};
 ghost use Rattle.reader.specs.Reading.{someZero, normalized, endOf, readForm};

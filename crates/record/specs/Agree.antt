@@ -20,7 +20,7 @@ use Rattle.record.specs.LayoutSize.{scheduled-le}
 use Rattle.record.specs.LayoutSlices.{class-slice, node-slice, edge-slice, start-slice}
 use Rattle.record.specs.FirstOf.{first-is}
 use Rattle.record.specs.ReadRows.{Slot, slotBytes}
-use Rattle.record.specs.Sofar.{headClasses, headNodes, headEdges, headLength, nodesFrom, edgesFrom, startsFrom, noEdge, noSlot, slotOf, Sofar}
+use Rattle.record.specs.Sofar.{headClasses, headNodes, headEdges, headLength, nodesFrom, edgesFrom, startsFrom, noEdge, noSlot, slotOf, ReadSofar}
 use Rattle.record.specs.ReadAll.{headStarts, StartsSofar}
 use Rattle.record.specs.LaidHeader.{Counts, counts}
 
@@ -102,7 +102,7 @@ module _ (f : Form) (h : Held f) where
         subst (λ (a : ℕ). take 3 (drop a (layout f)) ≡ slotBytes (slotOf f v)) at (start-slice f (k .fits) v (omega (arith, starts-same)))
 
   -- the rows that are read so far are the form's
-  module _ (c n e t at : ℕ) (x : Reading) (p : Sofar (layout f) c n e t at x) where
+  module _ (c n e t at : ℕ) (x : Reading) (p : ReadSofar (layout f) c n e t at x) where
     same-counts : Counts f h
     same-counts = counts f h (p .head)
 

@@ -14,7 +14,7 @@ use Rattle.field.specs.declared.Cursor.{Cursor}
 use Rattle.field.specs.declared.Taken.{Taken}
 use Rattle.field.specs.Number.{numberAt}
 use Rattle.field.specs.Taking.{taken, onward}
-use Rattle.field.specs.Laws.{Good, good}
+use Rattle.field.specs.Laws.{GoodField, good}
 
 -- what is known of a field that is not refused, at its offset
 pub record Got (s : List ℕ) (at to width low high : ℕ) (t : Taken) : Type 0 where
@@ -32,7 +32,7 @@ module _ (s : List ℕ) (c : Cursor) (width low high : ℕ) (kind : Kind) (f : f
   -- a field that is not refused holds the number at its offset
   pub got : (at to : ℕ) → c ≡ onward at → at + width ≡ to → Got s at to width low high (taken s c width low high kind)
   got at to e n =
-      let g : Good s c width low high (taken s c width low high kind) = good s c width low high kind f in
+      let g : GoodField s c width low high (taken s c width low high kind) = good s c width low high kind f in
       let a : c .at ≡ at = ap (λ (k : Cursor). k .at) e in
       record {
         room = omega (arith, g .room);

@@ -51,7 +51,7 @@ pub record Held (f : Form) : Type 0 where
   pub retiming : (v : ℕ) → v < 64 → retimingOf f v < 256
 
 -- the tables have places for their counts
-pub record Fits (f : Form) : Type 0 where
+pub record CountsFit (f : Form) : Type 0 where
   pub classes : f .classes ≤ 4
   pub nodes : f .nodes ≤ 64
   pub edges : f .edges ≤ 256

@@ -16,7 +16,7 @@ use Rattle.field.specs.Number.{numberAt, bytesOf}
 use Rattle.field.specs.Taking.{onward, wrongAt}
 use Rattle.reader.specs.Tables.{markIn, versionIn, classesIn, nodesIn, edgesIn, headerOf}
 use Rattle.writer.specs.Layout.{countBytes, headerBytes, layout}
-use Rattle.record.specs.Held.{Held, Fits}
+use Rattle.record.specs.Held.{Held, CountsFit}
 use Rattle.record.specs.LayoutSize.{header-width}
 use Rattle.record.specs.LayoutSlices.{header-slice}
 use Rattle.record.specs.ReadHeader.{Head}
@@ -59,7 +59,7 @@ module _ (f : Form) (h : Held f) where
     pub nodes : headNodes (layout f) ≡ f .nodes
     pub edges : headEdges (layout f) ≡ f .edges
     pub last : headLength (layout f) ≡ f .length
-    pub fits : Fits f
+    pub fits : CountsFit f
 
   -- a header that is read has the form's counts
   pub counts : Head (layout f) → Counts

@@ -17,7 +17,7 @@ use Rattle.form.specs.Places.{classOf, nodeOf, edgeOf, startOf, retimingOf, sch
 use Rattle.form.specs.Ranges.{WellFormed}
 use Rattle.field.specs.Number.{Bytes, bytesOf}
 use Rattle.writer.specs.Layout.{codeOf, constantOf, classBytes, nodeBytes, edgeBytes, startBytes, countBytes, headerBytes, classRows, nodeRows, edgeRows, startRows, layout}
-use Rattle.record.specs.Held.{Held, HeldClass, HeldEdge, Fits}
+use Rattle.record.specs.Held.{Held, HeldClass, HeldEdge, CountsFit}
 use Rattle.record.specs.Rows.{bytes-nil, bytes-cons, bytes-three, bytes-append, bytes-of, rows-bytes, rows-length}
 
 -- a class takes 3 bytes
@@ -85,7 +85,7 @@ module _ (f : Form) where
   layout-short = omega (arith, layout-width)
 
   -- a form with places for its counts takes 11 bytes and its rows
-  pub fits-length : Fits f → length (layout f) ≡ 11 + 3 * f .classes + 6 * f .nodes + 3 * f .edges + 3 * scheduled f
+  pub fits-length : CountsFit f → length (layout f) ≡ 11 + 3 * f .classes + 6 * f .nodes + 3 * f .edges + 3 * scheduled f
   fits-length w = omega (arith, layout-width, scheduled-le (f .length) (f .nodes))
 
   -- a well-formed form takes 11 bytes, 3 a class, 6 a node, 3 an edge and, with a schedule, 3 a node more

@@ -9,7 +9,7 @@ use lib.Seq.{take-at}
 use Rattle.form.specs.declared.Form.{Form}
 use Rattle.form.specs.Places.{classOf, nodeOf, edgeOf, startOf, retimingOf, scheduled}
 use Rattle.writer.specs.Layout.{classBytes, nodeBytes, edgeBytes, startBytes, headerBytes, classRows, nodeRows, edgeRows, startRows, layout}
-use Rattle.record.specs.Held.{Fits}
+use Rattle.record.specs.Held.{CountsFit}
 use Rattle.record.specs.Rows.{rows-slice}
 use Rattle.record.specs.LayoutSize.{class-width, node-width, edge-width, start-width, header-width, classes-width, nodes-width, edges-width, scheduled-le}
 
@@ -19,7 +19,7 @@ module _ (f : Form) where
   unfolding layout
   header-slice = take-at (headerBytes f) _ 11 (header-width f)
 
-  module _ (h : Fits f) where
+  module _ (h : CountsFit f) where
     -- class i is a slice of the layout
     pub class-slice : (i : ℕ) → i < f .classes → take 3 (drop (11 + 3 * i) (layout f)) ≡ classBytes (classOf f i)
     unfolding layout classRows

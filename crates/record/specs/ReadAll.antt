@@ -19,7 +19,7 @@ use Rattle.reader.specs.Tables.{headerOf, classStep, nodeStep, edgeStep, startS
 use Rattle.reader.specs.Reading.{classesRead, nodesRead, edgesRead, startsRead, normalized, endOf}
 use Rattle.record.specs.LayoutSize.{scheduled-le}
 use Rattle.record.specs.Runs.{Runs, runs-on, table-runs}
-use Rattle.record.specs.Sofar.{headClasses, headNodes, headEdges, headLength, nodesFrom, edgesFrom, startsFrom, Sofar, moved, header-on, class-on, node-on, edge-on, start-on}
+use Rattle.record.specs.Sofar.{headClasses, headNodes, headEdges, headLength, nodesFrom, edgesFrom, startsFrom, ReadSofar, moved, header-on, class-on, node-on, edge-on, start-on}
 
 -- as many starts as the header says
 abbrev pub headStarts : List ℕ → ℕ
@@ -27,16 +27,16 @@ headStarts s = scheduledOf (headLength s) (headNodes s)
 
 -- what is read of each table after so many of its rows
 abbrev pub ClassesSofar : List ℕ → ℕ → Reading → Type 0
-ClassesSofar s i = Sofar s i 0 0 0 (11 + 3 * i)
+ClassesSofar s i = ReadSofar s i 0 0 0 (11 + 3 * i)
 
 abbrev pub NodesSofar : List ℕ → ℕ → Reading → Type 0
-NodesSofar s v = Sofar s (headClasses s) v 0 0 (nodesFrom s + 6 * v)
+NodesSofar s v = ReadSofar s (headClasses s) v 0 0 (nodesFrom s + 6 * v)
 
 abbrev pub EdgesSofar : List ℕ → ℕ → Reading → Type 0
-EdgesSofar s e = Sofar s (headClasses s) (headNodes s) e 0 (edgesFrom s + 3 * e)
+EdgesSofar s e = ReadSofar s (headClasses s) (headNodes s) e 0 (edgesFrom s + 3 * e)
 
 abbrev pub StartsSofar : List ℕ → ℕ → Reading → Type 0
-StartsSofar s v = Sofar s (headClasses s) (headNodes s) (headEdges s) v (startsFrom s + 3 * v)
+StartsSofar s v = ReadSofar s (headClasses s) (headNodes s) (headEdges s) v (startsFrom s + 3 * v)
 
 -- a table's row that is refused after all before it were read
 abbrev pub Refuses : (ℕ → Reading → Reading) → (ℕ → Reading → Type 0) → ℕ → (Refusal → Type 0) → Type 0

@@ -46,7 +46,7 @@ pub record GoodSlot (length latency : ℕ) (k : Slot) : Type 0 where
   pub retiming : k .retiming ≤ 63
 
 -- what is known of a row that was read
-pub record Row {A : Type 0} (s : List ℕ) (at to width : ℕ) (bytes : A → List ℕ) (Good : A → Type 0) (past : Cursor) (a : A) : Type 0 where
+pub record RowRead {A : Type 0} (s : List ℕ) (at to width : ℕ) (bytes : A → List ℕ) (Good : A → Type 0) (past : Cursor) (a : A) : Type 0 where
   pub next : past ≡ onward to
   pub laid : bytes a ≡ take width (drop at s)
   pub good : Good a
@@ -67,7 +67,7 @@ constant-of code k =
 
 module _ (s : List ℕ) (b : Bytes s) (c : Cursor) (at to : ℕ) (e : c ≡ onward at) where
   -- a class that is not refused was read
-  pub class-row : at + 3 ≡ to → fine (classAt s c .next .refusal) ≡ true → Row s at to 3 classBytes GoodClass (classAt s c .next) (classAt s c .class)
+  pub class-row : at + 3 ≡ to → fine (classAt s c .next .refusal) ≡ true → RowRead s at to 3 classBytes GoodClass (classAt s c .next) (classAt s c .class)
   unfolding classAt classBytes
   class-row n f =
       let f2 : fine (unitsIn s c .next .refusal) ≡ true = begun s (unitsIn s c .next) 1 0 1 Machine f in
@@ -84,7 +84,7 @@ module _ (s : List ℕ) (b : Bytes s) (c : Cursor) (at to : ℕ) (e : c ≡ onwa
   module _ (classes : ℕ) where
     -- a node that is not refused was read
     pub node-row : 0 < classes → at + 6 ≡ to → fine (nodeAt s c classes .next .refusal) ≡ true
-        → Row s at to 6 nodeBytes (GoodNode classes) (nodeAt s c classes .next) (nodeAt s c classes .node)
+        → RowRead s at to 6 nodeBytes (GoodNode classes) (nodeAt s c classes .next) (nodeAt s c classes .node)
     unfolding nodeAt nodeBytes
     node-row z n f =
         let f2 : fine (codeIn s c classes .next .refusal) ≡ true = begun s (codeIn s c classes .next) 4 0 4294967295 node f in
@@ -105,7 +105,7 @@ module _ (s : List ℕ) (b : Bytes s) (c : Cursor) (at to : ℕ) (e : c ≡ onwa
   module _ (nodes : ℕ) where
     -- an edge that is not refused was read
     pub edge-row : 0 < nodes → at + 3 ≡ to → fine (edgeAt s c nodes .next .refusal) ≡ true
-        → Row s at to 3 edgeBytes (GoodEdge nodes) (edgeAt s c nodes .next) (edgeAt s c nodes .edge)
+        → RowRead s at to 3 edgeBytes (GoodEdge nodes) (edgeAt s c nodes .next) (edgeAt s c nodes .edge)
     unfolding edgeAt edgeBytes
     edge-row z n f =
         let f2 : fine (toIn s c nodes .next .refusal) ≡ true = begun s (toIn s c nodes .next) 1 0 15 edge f in
@@ -122,7 +122,7 @@ module _ (s : List ℕ) (b : Bytes s) (c : Cursor) (at to : ℕ) (e : c ≡ onwa
   module _ (last latency : ℕ) where
     -- a start and a retiming that are not refused were read
     pub start-row : at + 3 ≡ to → fine (startAt s c last latency .next .refusal) ≡ true
-        → Row s at to 3 slotBytes (GoodSlot last latency) (startAt s c last latency .next)
+        → RowRead s at to 3 slotBytes (GoodSlot last latency) (startAt s c last latency .next)
         (record { start = startAt s c last latency .start; retiming = startAt s c last latency .retiming })
     unfolding startAt startBytes
     start-row n f =

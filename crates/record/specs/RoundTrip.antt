@@ -24,22 +24,22 @@ use Rattle.record.specs.Read.{read-layout}
 use Rattle.record.specs.Written.{well-formed-written, written-well-formed}
 
 -- what is known of a form that is written
-pub record Wrote (f : Form) (room : ℕ) : Type 0 where
+pub record ReadsBack (f : Form) (room : ℕ) : Type 0 where
   pub reads : fine (readForm (layout f) .refusal) ≡ true
   pub fits : length (layout f) ≤ room
 
 module _ (f : Form) (room : ℕ) where
   -- a form that writing does not refuse is read back, and there is room for it
-  pub wrote : fine (refusalOf f room) ≡ true → Wrote f room
+  pub wrote : fine (refusalOf f room) ≡ true → ReadsBack f room
   unfolding refusalOf fine
   wrote =
-      let P : Refusal → Type 0 = λ r. fine r ≡ true → Wrote f room in
+      let P : Refusal → Type 0 = λ r. fine r ≡ true → ReadsBack f room in
       pick-ind P (fine (readForm (layout f) .refusal)) _ _
       (λ r. pick-ind P (ltb room (length (layout f))) _ _ (λ l e. both-ways e refl) (λ l e. record { reads = r; fits = ltb-false room (length (layout f)) l }))
       (λ r e. both-ways e r)
 
   -- a form that is read back, with room for it, is not refused
-  pub writes : Wrote f room → refusalOf f room ≡ None
+  pub writes : ReadsBack f room → refusalOf f room ≡ None
   unfolding refusalOf
   writes w = pick-true (fine (readForm (layout f) .refusal)) _ _ (w .reads) ∙ pick-false (ltb room (length (layout f))) _ _ (le-ltb room (length (layout f)) (w .fits))
 
@@ -47,7 +47,7 @@ module _ (f : Form) (room : ℕ) where
 pub buffer-begins : (f : Form) (out : List ℕ) → fine (refusalOf f (length out)) ≡ true → take (length (layout f)) (bufferAfter f out) ≡ layout f
 unfolding bufferAfter
 buffer-begins f out e =
-    let w : Wrote f (length out) = wrote f (length out) e in
+    let w : ReadsBack f (length out) = wrote f (length out) e in
     ap (λ (t : List ℕ). take (length (layout f)) t) (pick-true (fine (refusalOf f (length out))) (sets out 0 (layout f)) out e ∙ sets-eq (layout f) out 0 (omega (arith, w .fits)))
     ∙ take-append-seam (layout f) (drop (0 + length (layout f)) out)
 
@@ -71,7 +71,7 @@ unfolding fine
 writing-read s out b e l =
     let f : Form = readForm s .form in
     let same : layout f ≡ s = read-layout s b e in
-    let w : Wrote f (length out) = record { reads = ap (λ (t : List ℕ). fine (readForm t .refusal)) same ∙ e; fits = omega (arith, ap length same) } in
+    let w : ReadsBack f (length out) = record { reads = ap (λ (t : List ℕ). fine (readForm t .refusal)) same ∙ e; fits = omega (arith, ap length same) } in
     let none : refusalOf f (length out) ≡ None = writes f (length out) w in
     record {
       refusal = none;

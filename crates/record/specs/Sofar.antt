@@ -22,7 +22,7 @@ use Rattle.record.specs.Held.{Sized}
 use Rattle.record.specs.FirstOf.{unused}
 use Rattle.record.specs.Cells.{Cells, cells-none, cells-put}
 use Rattle.record.specs.ReadHeader.{Head, header-read}
-use Rattle.record.specs.ReadRows.{GoodNode, Slot, slotBytes, GoodSlot, Row, class-row, node-row, edge-row, start-row}
+use Rattle.record.specs.ReadRows.{GoodNode, Slot, slotBytes, GoodSlot, RowRead, class-row, node-row, edge-row, start-row}
 
 -- the counts that the header has, and where each table begins by them
 module _ (s : List ℕ) where
@@ -59,7 +59,7 @@ abbrev pub slotOf : Form → ℕ → Slot
 slotOf f v = record { start = getD (f .start) v noStep; retiming = getD (f .retiming) v 0 }
 
 -- so many classes, nodes, edges and starts are read, up to an offset
-pub record Sofar (s : List ℕ) (c n e t at : ℕ) (x : Reading) : Type 0 where
+pub record ReadSofar (s : List ℕ) (c n e t at : ℕ) (x : Reading) : Type 0 where
   pub head : Head s
   pub sized : Sized (x .form)
   pub next : x .next ≡ onward at
@@ -73,12 +73,12 @@ pub record Sofar (s : List ℕ) (c n e t at : ℕ) (x : Reading) : Type 0 where
   pub start : Cells s (startsFrom s) 3 slotBytes (λ v. GoodSlot (headLength s) (latencyOf (x .form) v)) noSlot t (slotOf (x .form))
 
 -- the offset may be written in another way
-pub moved : (s : List ℕ) (c n e t at to : ℕ) (x : Reading) → at ≡ to → Sofar s c n e t at x → Sofar s c n e t to x
-moved s c n e t at to x q p = subst (λ (k : ℕ). Sofar s c n e t k x) q p
+pub moved : (s : List ℕ) (c n e t at to : ℕ) (x : Reading) → at ≡ to → ReadSofar s c n e t at x → ReadSofar s c n e t to x
+moved s c n e t at to x q p = subst (λ (k : ℕ). ReadSofar s c n e t k x) q p
 
 module _ (s : List ℕ) (b : Bytes s) where
   -- after the header, no row is read
-  pub header-on : fine (headerOf s .next .refusal) ≡ true → Sofar s 0 0 0 0 11 (headerOf s)
+  pub header-on : fine (headerOf s .next .refusal) ≡ true → ReadSofar s 0 0 0 0 11 (headerOf s)
   unfolding headerOf emptyForm
   header-on f =
       let z : ℕ = 0 in
@@ -106,11 +106,11 @@ module _ (s : List ℕ) (b : Bytes s) where
       }
 
   -- one class more
-  pub class-on : (i : ℕ) (x : Reading) → i < headClasses s → Sofar s i 0 0 0 (11 + 3 * i) x → fine (classStep s i x .next .refusal) ≡ true
-      → Sofar s (suc i) 0 0 0 (11 + 3 * suc i) (classStep s i x)
+  pub class-on : (i : ℕ) (x : Reading) → i < headClasses s → ReadSofar s i 0 0 0 (11 + 3 * i) x → fine (classStep s i x .next .refusal) ≡ true
+      → ReadSofar s (suc i) 0 0 0 (11 + 3 * suc i) (classStep s i x)
   unfolding classStep
   class-on i x l p f =
-      let r : Row s (11 + 3 * i) (11 + 3 * suc i) 3 classBytes GoodClass (classAt s (x .next) .next) (classAt s (x .next) .class) =
+      let r : RowRead s (11 + 3 * i) (11 + 3 * suc i) 3 classBytes GoodClass (classAt s (x .next) .next) (classAt s (x .next) .class) =
       class-row s b (x .next) (11 + 3 * i) (11 + 3 * suc i) (p .next) (omega arith) f in
       let k : i < length (x .form .class) = omega (arith, p .sized .class, p .head .classes) in
       record {
@@ -142,14 +142,14 @@ module _ (s : List ℕ) (b : Bytes s) where
       }
 
   -- one node more
-  pub node-on : (v : ℕ) (x : Reading) → v < headNodes s → Sofar s (headClasses s) v 0 0 (nodesFrom s + 6 * v) x → fine (nodeStep s v x .next .refusal) ≡ true
-      → Sofar s (headClasses s) (suc v) 0 0 (nodesFrom s + 6 * suc v) (nodeStep s v x)
+  pub node-on : (v : ℕ) (x : Reading) → v < headNodes s → ReadSofar s (headClasses s) v 0 0 (nodesFrom s + 6 * v) x → fine (nodeStep s v x .next .refusal) ≡ true
+      → ReadSofar s (headClasses s) (suc v) 0 0 (nodesFrom s + 6 * suc v) (nodeStep s v x)
   unfolding nodeStep
   node-on v x l p f =
       let at : ℕ = nodesFrom s + 6 * v in
       let to : ℕ = nodesFrom s + 6 * suc v in
       let classes : ℕ = x .form .classes in
-      let r : Row s at to 6 nodeBytes (GoodNode classes) (nodeAt s (x .next) classes .next) (nodeAt s (x .next) classes .node) =
+      let r : RowRead s at to 6 nodeBytes (GoodNode classes) (nodeAt s (x .next) classes .next) (nodeAt s (x .next) classes .node) =
       node-row s b (x .next) at to (p .next) classes (omega (arith, p .classes, p .head .classes)) (omega arith) f in
       let k : v < length (x .form .node) = omega (arith, p .sized .node, p .head .nodes) in
       record {
@@ -181,15 +181,15 @@ module _ (s : List ℕ) (b : Bytes s) where
       }
 
   -- one edge more
-  pub edge-on : (e : ℕ) (x : Reading) → e < headEdges s → Sofar s (headClasses s) (headNodes s) e 0 (edgesFrom s + 3 * e) x
-      → fine (edgeStep s e x .next .refusal) ≡ true → Sofar s (headClasses s) (headNodes s) (suc e) 0 (edgesFrom s + 3 * suc e) (edgeStep s e x)
+  pub edge-on : (e : ℕ) (x : Reading) → e < headEdges s → ReadSofar s (headClasses s) (headNodes s) e 0 (edgesFrom s + 3 * e) x
+      → fine (edgeStep s e x .next .refusal) ≡ true → ReadSofar s (headClasses s) (headNodes s) (suc e) 0 (edgesFrom s + 3 * suc e) (edgeStep s e x)
   unfolding edgeStep
   edge-on e x l p f =
       let at : ℕ = edgesFrom s + 3 * e in
       let to : ℕ = edgesFrom s + 3 * suc e in
       let nodes : ℕ = x .form .nodes in
       let new : Edge = edgeAt s (x .next) nodes .edge in
-      let r : Row s at to 3 edgeBytes (GoodEdge nodes) (edgeAt s (x .next) nodes .next) new =
+      let r : RowRead s at to 3 edgeBytes (GoodEdge nodes) (edgeAt s (x .next) nodes .next) new =
       edge-row s b (x .next) at to (p .next) nodes (omega (arith, p .nodes, p .head .nodes)) (omega arith) f in
       let k : (xs : List ℕ) → length xs ≡ 256 → e < length xs = λ xs q. omega (arith, p .head .edges) in
       record {
@@ -229,8 +229,8 @@ module _ (s : List ℕ) (b : Bytes s) where
       }
 
   -- one start and retiming more
-  pub start-on : (v : ℕ) (x : Reading) → v < headNodes s → Sofar s (headClasses s) (headNodes s) (headEdges s) v (startsFrom s + 3 * v) x
-      → fine (startStep s v x .next .refusal) ≡ true → Sofar s (headClasses s) (headNodes s) (headEdges s) (suc v) (startsFrom s + 3 * suc v) (startStep s v x)
+  pub start-on : (v : ℕ) (x : Reading) → v < headNodes s → ReadSofar s (headClasses s) (headNodes s) (headEdges s) v (startsFrom s + 3 * v) x
+      → fine (startStep s v x .next .refusal) ≡ true → ReadSofar s (headClasses s) (headNodes s) (headEdges s) (suc v) (startsFrom s + 3 * suc v) (startStep s v x)
   unfolding startStep
   start-on v x l p f =
       let at : ℕ = startsFrom s + 3 * v in
@@ -238,7 +238,7 @@ module _ (s : List ℕ) (b : Bytes s) where
       let latency : ℕ = latencyOf (x .form) v in
       let last : ℕ = x .form .length in
       let new : Slot = record { start = startAt s (x .next) last latency .start; retiming = startAt s (x .next) last latency .retiming } in
-      let r : Row s at to 3 slotBytes (GoodSlot last latency) (startAt s (x .next) last latency .next) new =
+      let r : RowRead s at to 3 slotBytes (GoodSlot last latency) (startAt s (x .next) last latency .next) new =
       start-row s b (x .next) at to (p .next) last latency (omega arith) f in
       record {
         head = p .head;

@@ -19,7 +19,6 @@ use Rattle.form.specs.Ranges.{Within, GoodSchedule, WellFormed}
 use Rattle.field.specs.Number.{Bytes}
 use Rattle.field.specs.declared.Cursor.{Cursor}
 use Rattle.reader.specs.declared.Reading.{Reading}
-use Rattle.reader.specs.declared.Record.{Record}
 use Rattle.reader.specs.Reading.{startsRead, normalized, endOf, answered, readForm}
 use Rattle.writer.specs.Layout.{layout}
 use Rattle.record.specs.Held.{Held}
@@ -84,10 +83,6 @@ module _ (f : Form) (h : Held f) where
       let b : Bytes (layout f) = layout-bytes f h in
       let g : readForm (layout f) .form ≡ used f = read-form (layout f) b e ∙ reads-used f h (startsRead (layout f)) (read-whole (layout f) b e) in
       used-well-formed f (h .sized) (subst WellFormed g (read-well-formed (layout f) b e))
-
-  -- and the form read is the form with its unused places 0
-  pub written-used : fine (readForm (layout f) .refusal) ≡ true → readForm (layout f) .form ≡ used f
-  written-used e = ap (λ (r : Record). r .form) (well-formed-written (written-well-formed e))
 
   -- reading a form's bytes refuses nothing, or one of its fields: never Short, Mark, Version or Tail
   pub written-refusals : (numberOf (readForm (layout f) .refusal) ≡ 0) ⊎ Within 4 9 (numberOf (readForm (layout f) .refusal))

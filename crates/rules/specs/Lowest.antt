@@ -20,13 +20,12 @@ use Rattle.form.specs.declared.Class.{Class}
 use Rattle.form.specs.Places.{noClass}
 use Rattle.form.specs.Hold.{hold}
 use Rattle.legal.specs.Loop.{Loop, Pair, runsOn}
-use Rattle.legal.specs.Held.{held}
 use Rattle.legal.specs.Legal.{busy}
 use Rattle.legal.specs.Judging.{over, unitsOf}
 use Rattle.tables.specs.declared.Timetable.{Timetable}
 use Rattle.tables.specs.Times.{Timed}
 use Rattle.rules.specs.Busy.{heldOn, busyIn, StartsIn, Seated}
-use Rattle.rules.specs.Crowded.{Start, over-start, Over, units-lowest, units-none}
+use Rattle.rules.specs.Crowded.{over-start, Over, units-lowest, units-none}
 
 abbrev pub spotOf : ℕ → ℕ → ℕ
 spotOf q c = q * 4 + c

@@ -4,7 +4,7 @@ ghost use Prim.Native.Nat.{_+_, _-_, _*_, _%_, _≤_, _<_};
 ghost use Rattle.legal.specs.Loop.{Loop, Pair};
 ghost use Rattle.legal.specs.Judging.{brokenEdge, unitsOf};
 ghost use Rattle.tables.specs.Edges.{Ends, Told};
-ghost use Rattle.tables.specs.Times.{Sound, Timed};
+ghost use Rattle.tables.specs.Times.{SoundTimes, Timed};
 ghost use Rattle.legal.specs.Held.{held};
 ghost use Rattle.rules.specs.Busy.{heldOn, busyIn, StartsIn, Seated};
 ghost use Rattle.rules.specs.Lowest.{lowerSpot, FirstOf, Lowest};
@@ -12,13 +12,7 @@ use answer::Refusal;
 use form::Class;
 use form::hold_of;
 use tables::Timetable;
-
-// A byte as a u16; the bound spares each use a proof.
-fn wide(x: u8) -> u16
-    ensures { λ r. ⌜ (r ≡ x) × (r < 256) ⌝ }
-{
-    x as u16
-}
+use widths::wide;
 
 // A step, so many iterations of the body later. Even the largest leaves room for a latency.
 fn later(step: u16, length: u16, iterations: u16) -> u32
@@ -152,7 +146,7 @@ fn lower_spot<'a>(
 
 // The lowest spot of step 1, into which an operation of any class may run over the end; `past` where there is none.
 fn first_spot(times: Timetable, past: u32) -> u32
-    requires { ⌜ Sound times ⌝ }
+    requires { ⌜ SoundTimes times ⌝ }
     requires { ⌜ ((g : Loop) × ((p : Pair) × Timed g p times × Seated g p)) ⌝ }
     requires { ⌜ past ≡ times .length * 4 + 4 ⌝ }
     ensures { λ r. ⌜ ((g : Loop) (p : Pair) → Timed g p times → Seated g p → Lowest g p (FirstOf (g .classes)) r) ⌝ }
@@ -176,7 +170,7 @@ fn first_spot(times: Timetable, past: u32) -> u32
 
 // Units with the lowest overfull step and its lowest class: that is step 1, or a node of the class starts there, or the step before would hold as much.
 pub fn crowded(times: Timetable) -> Refusal
-    requires { ⌜ Sound times ⌝ }
+    requires { ⌜ SoundTimes times ⌝ }
     requires { ⌜ ((g : Loop) × ((p : Pair) × Timed g p times × Seated g p)) ⌝ }
     ensures { λ r. ⌜ ((g : Loop) (p : Pair) → Timed g p times → Seated g p → r ≡ unitsOf g p) ⌝ }
 {

@@ -19,7 +19,7 @@ use Rattle.form.specs.Ranges.{WellFormed}
 use Rattle.legal.specs.Loop.{graphOf, loopOf, pairOf}
 use Rattle.tables.specs.Most.{mostOf}
 use Rattle.machine.specs.Run.{depth, cleared}
-use Rattle.run.specs.Tables.{startIn}
+use Rattle.run.specs.Tables.{stepAt}
 use Rattle.run.specs.Late.{missing}
 
 pub ruleset tests = (needs, eq-eqb, ne-eqb, le-leb, lt-leb, le-ltb, lt-ltb)
@@ -46,12 +46,12 @@ pub places-small : (k n : ℕ) → k ≤ 65535 → n ≤ 255 → k * n ≤ 16711
 places-small k n a b = mul-le-mul a b
 
 -- every node starts in the body
-pub starts-in : (f : Form) → WellFormed f → f .length ≢ 0 → (v : ℕ) → v < f .nodes → (1 ≤ startIn (f .start) v) × (startIn (f .start) v < 1 + f .length)
+pub starts-in : (f : Form) → WellFormed f → f .length ≢ 0 → (v : ℕ) → v < f .nodes → (1 ≤ stepAt (f .start) v) × (stepAt (f .start) v < 1 + f .length)
 starts-in f w some v l =
     let s = w .schedule some .starts v l in
     (s .begins, omega (arith, s .ends, w .class _ (w .node v l) .latency .0))
 
-pub start-few : (f : Form) → WellFormed f → f .length ≢ 0 → (v : ℕ) → v < f .nodes → startIn (f .start) v ≤ 512
+pub start-few : (f : Form) → WellFormed f → f .length ≢ 0 → (v : ℕ) → v < f .nodes → stepAt (f .start) v ≤ 512
 start-few f w some v l = omega (arith, starts-in f w some v l .1, w .length)
 
 -- ---- what an edge hands over

@@ -29,7 +29,7 @@ use Rattle.machine.specs.Moments.{repOf, issueStep}
 use Rattle.run.specs.Order.{Rising, order-rising, order-length}
 use Rattle.run.specs.Repeat.{order, stepIn, visitIn, repeated, visits-stay}
 use Rattle.run.specs.Units.{Boarded, Point, point-later}
-use Rattle.run.specs.Issue.{machineOf, Told, Outcome, Sized}
+use Rattle.run.specs.Issue.{machineOf, IssueTold, Outcome, SameSizes}
 use Rattle.run.specs.Going.{Before, Went}
 use Rattle.run.proofs.Laws.{starts-in}
 
@@ -81,7 +81,7 @@ module _ (g : Loop) (p : Pair) (starts : List ℕ) (k j v : ℕ) (begins : 1 ≤
 module _ (f : Form) (k : ℕ) (starts : List ℕ) (j : ℕ) where
   -- the buffers before node i of the order, from those before the repetition
   pub record Midway (values₀ finish₀ : List ℕ) (i : ℕ) (values finish free : List ℕ) : Type 0 where
-    pub sized : Sized values₀ finish₀ values finish free
+    pub sized : SameSizes values₀ finish₀ values finish free
     pub rest : fold (visitIn (loopOf f) (pairOf f) starts k j) (machineOf values finish None) (drop i (order (loopOf f) (pairOf f)))
         ≡ repeated (loopOf f) (pairOf f) starts k (machineOf values₀ finish₀ None) j
     pub low : ℕ
@@ -150,7 +150,7 @@ module _ (f : Form) (k : ℕ) (starts : List ℕ) (j : ℕ) where
             )
 
             pub midway-told : (x t : ℕ) → x ≡ j + retimingOf f (getD table i 0) - deep → t ≡ j * f .length + startOf f (getD table i 0)
-                → Told (loopOf f) (pairOf f) starts k (getD table i 0) x t (nodeOf f (getD table i 0) .class) (classOf f (nodeOf f (getD table i 0) .class))
+                → IssueTold (loopOf f) (pairOf f) starts k (getD table i 0) x t (nodeOf f (getD table i 0) .class) (classOf f (nodeOf f (getD table i 0) .class))
             unfolding loopOf graphOf pairOf
             midway-told x t is-x is-t =
                 let v : ℕ = getD table i 0 in
@@ -178,9 +178,9 @@ module _ (f : Form) (k : ℕ) (starts : List ℕ) (j : ℕ) where
                 (rw is-t (omega (arith, risen .0, add-mul (j * f .length) (startOf f (getD table i 0)) (f .nodes)))) (m .point)
 
             module _ (t : ℕ) (is-t : t ≡ j * f .length + startOf f (getD table i 0)) (values′ finish′ free′ : List ℕ) (why : Refusal)
-                (size : Sized values finish values′ finish′ free′)
+                (size : SameSizes values finish values′ finish′ free′)
                 (o : Outcome (loopOf f) (pairOf f) starts k t (getD table i 0) (machineOf values finish None) (machineOf values′ finish′ why) free′) where
-              both-sized : Sized values₀ finish₀ values′ finish′ free′
+              both-sized : SameSizes values₀ finish₀ values′ finish′ free′
               both-sized = record { values-long = size .values-long ∙ m .sized .values-long; finish-long = size .finish-long ∙ m .sized .finish-long; free-long = size .free-long }
 
               rest-issued : fold (visitIn (loopOf f) (pairOf f) starts k j) (machineOf values′ finish′ why) (drop (i + 1) (order (loopOf f) (pairOf f)))

@@ -18,7 +18,7 @@ use Rattle.machine.specs.Run.{depth}
 use Rattle.links.specs.Chains.{Chains}
 use Rattle.run.specs.Repeat.{order, repeated}
 use Rattle.run.specs.Units.{Point}
-use Rattle.run.specs.Issue.{machineOf, Sized}
+use Rattle.run.specs.Issue.{machineOf, SameSizes}
 
 -- a form with a schedule, its depth, its order and its links, and a start table that is long enough
 pub record Equipped (f : Form) (deep : ℕ) (table first next starts : List ℕ) : Type 0 where
@@ -38,7 +38,7 @@ pub record Before (f : Form) (k : ℕ) (starts : List ℕ) (j : ℕ) (values fin
 
 -- what repetition j makes of the buffers, and what holds before the next if nothing is refused
 pub record Went (f : Form) (k : ℕ) (starts : List ℕ) (j : ℕ) (values₀ finish₀ values finish free : List ℕ) (why : Refusal) : Type 0 where
-  pub sized : Sized values₀ finish₀ values finish free
+  pub sized : SameSizes values₀ finish₀ values finish free
   pub is-repeated : machineOf values finish why ≡ repeated (loopOf f) (pairOf f) starts k (machineOf values₀ finish₀ None) j
   pub next : fine why ≡ true → (why ≡ None) × Before f k starts (j + 1) values finish free
 

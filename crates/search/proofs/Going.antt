@@ -19,7 +19,7 @@ use Rattle.turning.specs.Pairs.{withPair}
 use Rattle.turning.specs.Rotation.{firstForm, rotatedLength, rotated, tooLong, turnedForm, rotatedOr}
 use Rattle.search.specs.Search.{Search, halved, stops, shorter, turn, begun, searchFrom, searched}
 use Rattle.search.specs.Halved.{halved-below, halved-small}
-use Rattle.search.specs.Good.{Good, first-good, rotated-good}
+use Rattle.search.specs.Good.{GoodPair, first-good, rotated-good}
 
 abbrev pub at : Form → ℕ → Form → ℕ → Search
 at now steps best rotations = record { now = now; steps = steps; best = best; rotations = rotations }
@@ -27,14 +27,14 @@ at now steps best rotations = record { now = now; steps = steps; best = best; ro
 pub record Going (first : Form) (count size : ℕ) (now best : Form) (steps rotations : ℕ) : Type 0 where
   pub within : rotations ≤ count
   pub small : steps < 65536
-  pub good : Good now
+  pub good : GoodPair now
   pub rest : searchFrom (count - rotations) (at now steps best rotations) ≡ searchFrom count (at first size first 0)
 
 pub going-none : (f : Form) → WellFormed f → knotted (loopOf f) ≡ false → (first : Form) → first ≡ firstForm f → (count size : ℕ) → size < 65536 → Going first count size first first size 0
 going-none f w free first is count size small = record {
   within = omega arith;
   small = small;
-  good = subst Good (sym is) (first-good f w free);
+  good = subst GoodPair (sym is) (first-good f w free);
   rest = rw (sub-zero count);
 }
 
@@ -48,7 +48,7 @@ either true b e = refl
 either false b e = e
 
 -- a size halved and not 0 is one of a rotation
-pub turn-good : (now : Form) → Good now → (z s : ℕ) → z < 65536 → s ≡ halved 17 (now .length) z → s ≢ 0 → (WellFormed now × Legal (loopOf now) (pairOf now)) × ((1 ≤ s) × (s < now .length))
+pub turn-good : (now : Form) → GoodPair now → (z s : ℕ) → z < 65536 → s ≡ halved 17 (now .length) z → s ≢ 0 → (WellFormed now × Legal (loopOf now) (pairOf now)) × ((1 ≤ s) × (s < now .length))
 turn-good now good z s small halves n = ((good .well-formed, good .legal), (pos-of-ne-zero n, rw halves (halved-below (now .length) (good .some) z small)))
 
 -- what the answer is
@@ -124,7 +124,7 @@ module _ (first : Form) (count size : ℕ) (now best : Form) (steps rotations : 
         going-turn l b choice n more = subst (Going first count size t b s) (sym more) (record {
           within = omega arith;
           small = rw halves (halved-small (now .length) (k .good .some) steps (k .small));
-          good = subst Good (sym rotated-is) (rotated-good now (k .good) s (record { some = pos-of-ne-zero some; below = below; fits = fits }));
+          good = subst GoodPair (sym rotated-is) (rotated-good now (k .good) s (record { some = pos-of-ne-zero some; below = below; fits = fits }));
           rest =
               ap (searchFrom (count - (rotations + 1))) (turned b choice)
               ∙ sym (one-more l ∙ pick-false (stops here) here _ (stops-is ∙ fails-or (eqb s 0) (tooLong now s) (ne-eqb s 0 some) fits))

@@ -9,7 +9,7 @@ use lib.ListN.{length, replicate}
 use Rattle.lists.specs.Span.{span}
 use Rattle.lists.specs.Fold.{sumOf, fold}
 use Rattle.system.specs.Graph.{Walk, Cycle, stop}
-use Rattle.system.specs.System.{System, gains, costs, Losing, LosingWalk, Shortest}
+use Rattle.system.specs.System.{System, gains, costs, Losing, LosingWalk}
 use Rattle.system.specs.Rounds.{asks, raise, raiseAll, raises, everyEdge, round, settleFrom, settledOf}
 
 pub record Same (s t : System) : Type 0 where
@@ -116,8 +116,3 @@ module _ (s t : System) (same : Same s t) where
     closed = same-walk _ es _ (w .closed);
     loss = omega (arith, w .loss, same-gains _ es _ (w .closed), same-costs _ es _ (w .closed));
   }
-
--- and the shortest of them are the same
-pub same-shortest : (s t : System) → Same s t → (es : List ℕ) → Shortest s es → Shortest t es
-same-shortest s t m es c =
-    record { losing = same-losing s t m es (c .losing); fewest = λ fs w. c .fewest fs (same-losing-walk t s (same-back s t m) fs w) }

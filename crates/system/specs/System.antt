@@ -34,7 +34,7 @@ pub record LosingWalk (s : System) (es : List ℕ) : Type 0 where
   pub loss : gains s es < costs s es
 
 -- a losing cycle with the fewest edges of all losing closed walks
-pub record Shortest (s : System) (es : List ℕ) : Type 0 where
+pub record FewestEdges (s : System) (es : List ℕ) : Type 0 where
   pub losing : Losing s es
   pub fewest : (fs : List ℕ) → LosingWalk s fs → length es ≤ length fs
 

@@ -14,8 +14,8 @@ use Rattle.system.specs.Walks.{along}
 use Rattle.system.specs.Laws.{settledAt, settled-solves, settled-least, settled-length, Attained, values-reached}
 
 -- x meets every constraint, read the other way up
-abbrev pub Turns : System → (ℕ → ℕ) → Type 0
-Turns s x = (e : ℕ) → e < s .graph .edges → x (s .graph .head e) + s .cost e ≤ x (s .graph .tail e) + s .gain e
+abbrev pub SolvesTurned : System → (ℕ → ℕ) → Type 0
+SolvesTurned s x = (e : ℕ) → e < s .graph .edges → x (s .graph .head e) + s .cost e ≤ x (s .graph .tail e) + s .gain e
 
 -- the largest value of a node
 unfoldable pub topOf : System → ℕ
@@ -48,7 +48,7 @@ module _ (s : System) (n : s .graph .nodes ≤ 64) where
   turned-zero one = let t = top-at one in (t .0, t .1, omega (arith, t .2))
 
   module _ (j : Joined (s .graph)) where
-    pub turned-turns : (settledOf s) .settled ≡ true → Turns s (turnedAt s)
+    pub turned-turns : (settledOf s) .settled ≡ true → SolvesTurned s (turnedAt s)
     unfolding turnedAt
     turned-turns q e l =
         omega (arith, settled-solves s q e l, settled-le-top s (s .graph .head e) (j .heads e l), settled-le-top s (s .graph .tail e) (j .tails e l))
@@ -60,7 +60,7 @@ module _ (s : System) (n : s .graph .nodes ≤ 64) where
         let t : Attained s 0 = values-reached s j q 0 one in
         (t .start, t .start-in, omega (arith, t .value, along s (settledAt s) (settled-solves s q) (t .start) (t .path) 0 (t .walk)))
 
-    module _ (x : ℕ → ℕ) (d : ℕ) (turns : Turns s x) (under : (v : ℕ) → v < s .graph .nodes → x v ≤ d) where
+    module _ (x : ℕ → ℕ) (d : ℕ) (turns : SolvesTurned s x) (under : (v : ℕ) → v < s .graph .nodes → x v ≤ d) where
       back : Solves s (λ v. d - x v)
       back e l = omega (arith, turns e l, under (s .graph .head e) (j .heads e l), under (s .graph .tail e) (j .tails e l))
 

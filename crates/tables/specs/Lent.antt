@@ -9,7 +9,7 @@ use Rattle.form.specs.Ranges.{GoodClass, WellFormed}
 use Rattle.legal.specs.Loop.{loopOf, pairOf, graphOf}
 use Rattle.tables.specs.declared.Timetable.{Timetable}
 use Rattle.tables.specs.Edges.{Ends, Told, told-form}
-use Rattle.tables.specs.Times.{timesOf, Sound, Timed, timed-form}
+use Rattle.tables.specs.Times.{timesOf, SoundTimes, Timed, timed-form}
 
 -- the tables are those of a well-formed form
 pub record Lent (f : Form) (edges : ℕ) (from to delays : List ℕ) (t : Timetable) : Type 0 where
@@ -38,7 +38,7 @@ module _ (f : Form) (edges : ℕ) (from to delays : List ℕ) (t : Timetable) (l
       }
 
   -- and every node runs on one of at most 4 classes
-  pub lent-sound : Sound t
+  pub lent-sound : SoundTimes t
   unfolding loopOf graphOf
   lent-sound =
       let w = lent .good in

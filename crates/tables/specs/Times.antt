@@ -33,7 +33,7 @@ unfolding timesOf
 times-are f v ks ts ss e k t s = rw (k, t, s, e)
 
 -- a timetable of at most 4 classes and 64 nodes
-pub record Sound (t : Timetable) : Type 0 where
+pub record SoundTimes (t : Timetable) : Type 0 where
   pub few : t .classes ≤ 4
   pub class : (c : ℕ) → c < t .classes → GoodClass (getD (t .class) c noClass)
   pub most : t .nodes ≤ 64
@@ -50,7 +50,7 @@ pub record Timed (g : Loop) (p : Pair) (t : Timetable) : Type 0 where
   pub starts : (v : ℕ) → v < t .nodes → p .start v ≡ getD (t .start) v 0
   pub retimed : (v : ℕ) → p .retiming v ≡ getD (t .retiming) v 0
 
-pub sound-form : (f : Form) → WellFormed f → Sound (timesOf f)
+pub sound-form : (f : Form) → WellFormed f → SoundTimes (timesOf f)
 unfolding timesOf
 sound-form f w = record {
   few = w .classes .1;

@@ -15,8 +15,8 @@ use Rattle.legal.specs.Loop.{graphOf, loopOf}
 use Rattle.legal.specs.Systems.{knotted}
 use Rattle.reach.specs.Weight.{weight}
 use Rattle.reach.specs.Tables.{weightsOf, weights-at}
-use Rattle.list_rule.specs.Rule.{startAt, listRule, lengthOf}
-use Rattle.list_rule.specs.Tables.{numbersOf, startsOf, Ends}
+use Rattle.list_rule.specs.Rule.{startNumber, listRule, lengthOf}
+use Rattle.list_rule.specs.Tables.{numbersOf, startsOf, EndsInBody}
 use Rattle.list_rule.specs.FirstLegal.{unretimed, firstStarts}
 use Rattle.list_rule.proofs.Laws.{start-at}
 use Rattle.turning.specs.Pairs.{withPair}
@@ -61,10 +61,10 @@ bare-good f w = record {
   schedule = λ n. absurd (n refl);
 }
 
-ends-good : (f : Form) → WellFormed f → Ends (bareForm f)
+ends-good : (f : Form) → WellFormed f → EndsInBody (bareForm f)
 ends-good f w = record {
   at = λ v l.
-      let zero : startAt (startsOf (bareForm f)) v ≡ 0 = ap (λ (xs : List ℕ). startAt xs v) (no-starts f) ∙ zeros-at 64 v in
+      let zero : startNumber (startsOf (bareForm f)) v ≡ 0 = ap (λ (xs : List ℕ). startNumber xs v) (no-starts f) ∙ zeros-at 64 v in
       let g = bare-good f w in
       omega (arith, start-at (bareForm f) v, zero, g .class _ (g .node v l) .latency .1);
 }
@@ -73,18 +73,18 @@ module _ (f : Form) (b : Form) (e : b ≡ bareForm f) where
   pub bare-well-formed : WellFormed f → WellFormed b
   bare-well-formed w = subst WellFormed (sym e) (bare-good f w)
 
-  pub bare-ends : WellFormed f → Ends b
-  bare-ends w = subst Ends (sym e) (ends-good f w)
+  pub bare-ends : WellFormed f → EndsInBody b
+  bare-ends w = subst EndsInBody (sym e) (ends-good f w)
 
   module _ (s : List BodyStep) (is : numbersOf s ≡ listRule (loopOf b) (retimingOf b) (startsOf b)) where
     starts-are : numbersOf s ≡ firstStarts (loopOf f)
     starts-are = is ∙ ap (λ (c : Form). listRule (loopOf c) (retimingOf c) (startsOf c)) e ∙ rule-is f
 
-    pub first-starts-soon : WellFormed f → knotted (loopOf f) ≡ false → (v : ℕ) → v < b .nodes → startAt (numbersOf s) v ≤ 1023
+    pub first-starts-soon : WellFormed f → knotted (loopOf f) ≡ false → (v : ℕ) → v < b .nodes → startNumber (numbersOf s) v ≤ 1023
     unfolding bareForm withPair
     first-starts-soon w free v l =
         let m : v < f .nodes = omega (arith, ap (λ (c : Form). c .nodes) e) in
-        omega (arith, first-soon f w free v m, ap (λ (xs : List ℕ). startAt xs v) starts-are)
+        omega (arith, first-soon f w free v m, ap (λ (xs : List ℕ). startNumber xs v) starts-are)
 
     -- the form with the starts, and the length, is the one with its first schedule
     pub first-is : (l : ℕ) → l ≡ lengthOf (loopOf b) (numbersOf s) → (r : Form) → r ≡ withPair f (numbersOf s) l (replicate 64 0) → r ≡ firstForm f

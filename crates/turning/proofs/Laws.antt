@@ -15,10 +15,10 @@ use Rattle.form.specs.declared.BodyStep.{BodyStep}
 use Rattle.form.specs.Places.{noStep, nodeOf, latencyOf}
 use Rattle.form.specs.Ranges.{WellFormed}
 use Rattle.legal.specs.Loop.{graphOf, loopOf}
-use Rattle.list_rule.specs.Rule.{startAt, lengthOf}
+use Rattle.list_rule.specs.Rule.{startNumber, lengthOf}
 use Rattle.list_rule.specs.Tables.{numbersOf}
 use Rattle.list_rule.proofs.Laws.{number-at}
-use Rattle.turning.specs.Pairs.{bodyStep, withPair}
+use Rattle.turning.specs.Pairs.{asBodyStep, withPair}
 
 -- ---- the length
 
@@ -29,7 +29,7 @@ pub record Working (f : Form) (s : List BodyStep) (v : ℕ) : Type 0 where
   pub short : latencyOf f v ≤ 8
   pub soon : getD s v noStep .0 ≤ 1023
 
-pub working-of : (f : Form) (s : List BodyStep) → WellFormed f → ((v : ℕ) → v < f .nodes → startAt (numbersOf s) v ≤ 1023) → (v : ℕ) → v < f .nodes → Working f s v
+pub working-of : (f : Form) (s : List BodyStep) → WellFormed f → ((v : ℕ) → v < f .nodes → startNumber (numbersOf s) v ≤ 1023) → (v : ℕ) → v < f .nodes → Working f s v
 working-of f s w soon v h =
     let l = w .node v h in
     let k = w .class (nodeOf f v .class) l in
@@ -42,7 +42,7 @@ working-of f s w soon v h =
 
 -- the last step in which one of the first v nodes is at work
 unfoldable pub lastOf : Form → List BodyStep → ℕ → ℕ
-lastOf f s v = top (map (λ u. startAt (numbersOf s) u + latencyOf f u - 1) (span 0 v))
+lastOf f s v = top (map (λ u. startNumber (numbersOf s) u + latencyOf f u - 1) (span 0 v))
 
 pub last-none : (f : Form) (s : List BodyStep) → 0 ≡ lastOf f s 0
 unfolding lastOf top span
@@ -51,15 +51,15 @@ last-none f s = refl
 pub last-more : (f : Form) (s : List BodyStep) (v : ℕ) → lastOf f s (v + 1) ≡ max (lastOf f s v) (getD s v noStep .0 + latencyOf f v - 1)
 unfolding lastOf
 last-more f s v =
-    rw (add-one, top-snoc (λ u. startAt (numbersOf s) u + latencyOf f u - 1) 0 v, zero-add, number-at s v)
+    rw (add-one, top-snoc (λ u. startNumber (numbersOf s) u + latencyOf f u - 1) 0 v, zero-add, number-at s v)
 
 pub last-all : (f : Form) (s : List BodyStep) (v : ℕ) → v ≡ f .nodes → lastOf f s v ≡ lengthOf (loopOf f) (numbersOf s)
 unfolding lastOf lengthOf loopOf graphOf
-last-all f s v e = ap (λ (n : ℕ). top (map (λ u. startAt (numbersOf s) u + latencyOf f u - 1) (span 0 n))) e
+last-all f s v e = ap (λ (n : ℕ). top (map (λ u. startNumber (numbersOf s) u + latencyOf f u - 1) (span 0 n))) e
 
 -- ---- a form with another pair
 
-steps-back : (s : List BodyStep) → s ≡ map bodyStep (numbersOf s)
+steps-back : (s : List BodyStep) → s ≡ map asBodyStep (numbersOf s)
 unfolding numbersOf
 steps-back [] = refl
 steps-back (x ∷ xs) = ap (λ (l : List BodyStep). x ∷ l) (steps-back xs)

@@ -21,19 +21,19 @@ use Rattle.legal.specs.Systems.{lateness, limits}
 use Rattle.legal.specs.Fitted.{Settles}
 use Rattle.fit.specs.declared.Fitting.{Fitting}
 use Rattle.fit.specs.Retimed.{retimings, StartsFitted}
-use Rattle.list_rule.specs.Rule.{startAt, listRule, lengthOf}
+use Rattle.list_rule.specs.Rule.{startNumber, listRule, lengthOf}
 use Rattle.list_rule.specs.Ends.{length-ends}
 use Rattle.list_rule.specs.Filling.{staffed-form}
-use Rattle.list_rule.specs.Tables.{numbersOf, startsOf, Ends}
+use Rattle.list_rule.specs.Tables.{numbersOf, startsOf, EndsInBody}
 use Rattle.turning.specs.Turned.{gainedBy, droppedBy, dropped-at}
-use Rattle.turning.specs.TurnedLegal.{turnedStarts, Tabled, turned-filled, turned-length, turned-settles}
+use Rattle.turning.specs.TurnedLegal.{turnedStarts, StartsTabled, turned-filled, turned-length, turned-settles}
 use Rattle.list_rule.proofs.Laws.{numbers-length, start-at}
-use Rattle.turning.specs.Pairs.{bodyStep, withPair}
+use Rattle.turning.specs.Pairs.{asBodyStep, withPair}
 use Rattle.turning.specs.Rotation.{rotatedStarts, rotatedLength, rotated, tooLong, turnedForm, rotatedOr}
 use Rattle.turning.specs.FirstLaws.{step-at}
 use Rattle.turning.specs.SameRule.{nodes-same}
 
-pub steps-there : (s : List ℕ) → numbersOf (map bodyStep s) ≡ s
+pub steps-there : (s : List ℕ) → numbersOf (map asBodyStep s) ≡ s
 unfolding numbersOf
 steps-there [] = refl
 steps-there (x ∷ xs) = ap (λ (l : List ℕ). x ∷ l) (steps-there xs)
@@ -60,7 +60,7 @@ pair-starts : (f : Form) (s : List ℕ) (l : ℕ) (r : List ℕ) → startsOf (w
 unfolding withPair startsOf
 pair-starts f s l r = steps-there s
 
-pub tabled-form : (f : Form) → length (f .start) ≡ 64 → Tabled (loopOf f) (pairOf f) (startsOf f)
+pub tabled-form : (f : Form) → length (f .start) ≡ 64 → StartsTabled (loopOf f) (pairOf f) (startsOf f)
 unfolding pairOf startsOf
 tabled-form f n = record { long = numbers-length (f .start) ∙ n; is = λ v l. sym (start-at f v) }
 
@@ -75,13 +75,13 @@ module _ (f : Form) (w : WellFormed f) (legal : Legal (loopOf f) (pairOf f)) (z 
   unfolding rotatedLength rotatedStarts pairOf
   rotated-length = turned-length (loopOf f) (pairOf f) z (startsOf f) (sound-form f w) (plain-form f) legal (tabled-form f n) (staffed-form f w) one below (w .length)
 
-  rotated-soon : (v : ℕ) → v < f .nodes → startAt (rotatedStarts f z) v ≤ 1023
+  rotated-soon : (v : ℕ) → v < f .nodes → startNumber (rotatedStarts f z) v ≤ 1023
   unfolding rotatedLength loopOf graphOf
   rotated-soon v l = omega (arith, rotated-length .1, length-ends (loopOf f) (rotatedStarts f z) v l, sound-form f w .works v l)
 
   -- ---- the form turned
 
-  turned-starts-pair : (v : ℕ) → pairOf (turnedForm f z) .start v ≡ startAt (rotatedStarts f z) v
+  turned-starts-pair : (v : ℕ) → pairOf (turnedForm f z) .start v ≡ startNumber (rotatedStarts f z) v
   unfolding turnedForm withPair pairOf
   turned-starts-pair v = step-at (rotatedStarts f z) v
 
@@ -113,7 +113,7 @@ module _ (f : Form) (w : WellFormed f) (legal : Legal (loopOf f) (pairOf f)) (z 
 
   -- the pair that the retiming is fitted to
   unfoldable turnedBy : Pair
-  turnedBy = record { kind = plain; start = startAt (rotatedStarts f z); length = rotatedLength f z; retiming = gainedBy (pairOf f) z }
+  turnedBy = record { kind = plain; start = startNumber (rotatedStarts f z); length = rotatedLength f z; retiming = gainedBy (pairOf f) z }
 
   module _ (t : Form) (is : t ≡ turnedForm f z) where
     length-is : t .length ≡ rotatedLength f z
@@ -160,16 +160,16 @@ module _ (f : Form) (w : WellFormed f) (legal : Legal (loopOf f) (pairOf f)) (z 
     pub turn-good : WellFormed b
     turn-good = subst WellFormed (sym e) (bare-good f w ls rs)
 
-    ends-good : Ends (withPair f ls 0 rs)
+    ends-good : EndsInBody (withPair f ls 0 rs)
     unfolding withPair loopOf graphOf pairOf
     ends-good = record {
       at = λ v l.
-          let at : startAt ls v ≡ startAt (startsOf f) v - z = ap (λ (xs : List ℕ). startAt xs v) low ∙ dropped-at z (startsOf f) v in
+          let at : startNumber ls v ≡ startNumber (startsOf f) v - z = ap (λ (xs : List ℕ). startNumber xs v) low ∙ dropped-at z (startsOf f) v in
           omega (arith, step-at ls v, at, start-at f v, plain-ends (loopOf f) (pairOf f) (plain-form f) v (legal .body v l), w .length, sound-form f w .short v l);
     }
 
-    pub turn-ends : Ends b
-    turn-ends = subst Ends (sym e) ends-good
+    pub turn-ends : EndsInBody b
+    turn-ends = subst EndsInBody (sym e) ends-good
 
     agree-at : (v : ℕ) → v < loopOf f .graph .nodes → retimingOf (withPair f ls 0 rs) v ≡ gainedBy (pairOf f) z v
     unfolding withPair loopOf graphOf
@@ -189,11 +189,11 @@ module _ (f : Form) (w : WellFormed f) (legal : Legal (loopOf f) (pairOf f)) (z 
       starts-are : numbersOf s ≡ rotatedStarts f z
       starts-are = is ∙ ap (λ (c : Form). listRule (loopOf c) (retimingOf c) (startsOf c)) e ∙ rule-here
 
-      pub turn-soon : (v : ℕ) → v < b .nodes → startAt (numbersOf s) v ≤ 1023
+      pub turn-soon : (v : ℕ) → v < b .nodes → startNumber (numbersOf s) v ≤ 1023
       unfolding withPair
       turn-soon v l =
           let m : v < f .nodes = omega (arith, ap (λ (c : Form). c .nodes) e) in
-          omega (arith, rotated-soon v m, ap (λ (xs : List ℕ). startAt xs v) starts-are)
+          omega (arith, rotated-soon v m, ap (λ (xs : List ℕ). startNumber xs v) starts-are)
 
       -- the form with the starts, and the length, is the form turned
       pub turn-is : (l : ℕ) → l ≡ lengthOf (loopOf b) (numbersOf s) → (r : Form) → r ≡ withPair f (numbersOf s) l (replicate 64 0) → r ≡ turnedForm f z

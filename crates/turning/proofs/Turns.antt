@@ -19,7 +19,7 @@ use Rattle.legal.specs.Loop.{pairOf}
 use Rattle.list_rule.specs.Tables.{numbersOf}
 use Rattle.turning.specs.Turned.{gainedBy, droppedBy, dropped-at}
 use Rattle.list_rule.proofs.Laws.{numbers-length, number-at}
-use Rattle.turning.specs.Pairs.{bodyStep}
+use Rattle.turning.specs.Pairs.{asBodyStep}
 
 -- ---- the starts
 
@@ -32,13 +32,13 @@ module _ (s : List BodyStep) (z : ℕ) (t : List BodyStep) where
   pub lowered-none : length t ≡ 64 → Lowered s z 0 t
   lowered-none n = record { long = n; at = λ u l. absurd (not-suc-le-zero l) }
 
-  pub lowered-more : (v a : ℕ) → v < 64 → a ≡ getD s v noStep .0 - z → Lowered s z v t → Lowered s z (v + 1) (set t v (bodyStep a))
+  pub lowered-more : (v a : ℕ) → v < 64 → a ≡ getD s v noStep .0 - z → Lowered s z v t → Lowered s z (v + 1) (set t v (asBodyStep a))
   lowered-more v a l e k = record {
-    long = length-set t v (bodyStep a) ∙ k .long;
+    long = length-set t v (asBodyStep a) ∙ k .long;
     at =
-        below-more (λ u. getD (set t v (bodyStep a)) u noStep .0 ≡ getD s u noStep .0 - z) v
-        (λ u m. ap (λ (b : BodyStep). b .0) (getD-set-other t v u (bodyStep a) noStep (ne-of-lt m)) ∙ k .at u m)
-        (ap (λ (b : BodyStep). b .0) (getD-set-same t v (bodyStep a) noStep (omega (arith, k .long))) ∙ e);
+        below-more (λ u. getD (set t v (asBodyStep a)) u noStep .0 ≡ getD s u noStep .0 - z) v
+        (λ u m. ap (λ (b : BodyStep). b .0) (getD-set-other t v u (asBodyStep a) noStep (ne-of-lt m)) ∙ k .at u m)
+        (ap (λ (b : BodyStep). b .0) (getD-set-same t v (asBodyStep a) noStep (omega (arith, k .long))) ∙ e);
   }
 
   pub lowered-all : (v : ℕ) → 64 ≤ v → length s ≡ 64 → Lowered s z v t → numbersOf t ≡ droppedBy z (numbersOf s)

@@ -29,17 +29,17 @@ use Rattle.legal.specs.Systems.{knotted}
 use Rattle.legal.specs.Judging.{judgeOf}
 use Rattle.legal.specs.Judged.{accepts-judge}
 use Rattle.legal.specs.Shape.{sound-form}
-use Rattle.list_rule.specs.Rule.{startAt, listRule, lengthOf}
+use Rattle.list_rule.specs.Rule.{startNumber, listRule, lengthOf}
 use Rattle.list_rule.specs.Kept.{fill-length}
 use Rattle.list_rule.specs.Ends.{length-ends}
 use Rattle.list_rule.specs.Filling.{Filled, staffed-form}
 use Rattle.list_rule.specs.FirstLegal.{unretimed, firstStarts, firstPair, first-filled, first-length, first-legal}
 use Rattle.turning.specs.TurnedLegal.{rule-past}
-use Rattle.turning.specs.Pairs.{bodyStep, withPair}
+use Rattle.turning.specs.Pairs.{asBodyStep, withPair}
 use Rattle.turning.specs.Rotation.{firstForm}
 
 -- a table of numbers as steps
-pub step-at : (s : List ℕ) (v : ℕ) → getD (map bodyStep s) v noStep .0 ≡ getD s v 0
+pub step-at : (s : List ℕ) (v : ℕ) → getD (map asBodyStep s) v noStep .0 ≡ getD s v 0
 step-at [] v = refl
 step-at (x ∷ xs) zero = refl
 step-at (x ∷ xs) (suc v) = step-at xs v
@@ -51,7 +51,7 @@ first-long g =
     let z : ℕ = 0 in
     fill-length g unretimed _ 1023 1 (replicate 64 0) ∙ length-replicate 64 z
 
-first-past : (g : Loop) (v : ℕ) → g .graph .nodes ≤ v → startAt (firstStarts g) v ≡ 0
+first-past : (g : Loop) (v : ℕ) → g .graph .nodes ≤ v → startNumber (firstStarts g) v ≡ 0
 unfolding firstStarts
 first-past g v h = rule-past g unretimed v h (replicate 64 0) ∙ zeros-at 64 v
 
@@ -65,7 +65,7 @@ module _ (f : Form) (w : WellFormed f) (free : knotted (loopOf f) ≡ false) whe
   first-form-length = first-length (loopOf f) (sound-form f w) (staffed-form f w) free
 
   -- no start is late
-  pub first-soon : (v : ℕ) → v < f .nodes → startAt (firstStarts (loopOf f)) v ≤ 513
+  pub first-soon : (v : ℕ) → v < f .nodes → startNumber (firstStarts (loopOf f)) v ≤ 513
   unfolding loopOf graphOf
   first-soon v l = omega (arith, filled .ends v l)
 
@@ -90,7 +90,7 @@ module _ (f : Form) (w : WellFormed f) (free : knotted (loopOf f) ≡ false) whe
     };
   }
 
-  small-start : (v : ℕ) → startAt (firstStarts (loopOf f)) v < 65536
+  small-start : (v : ℕ) → startNumber (firstStarts (loopOf f)) v < 65536
   unfolding loopOf graphOf
   small-start v =
       elim (decLt v (f .nodes)) [
@@ -108,7 +108,7 @@ module _ (f : Form) (w : WellFormed f) (free : knotted (loopOf f) ≡ false) whe
       from = h .sized .from;
       to = h .sized .to;
       delays = h .sized .delays;
-      start = length-map (firstStarts (loopOf f)) bodyStep ∙ first-long (loopOf f);
+      start = length-map (firstStarts (loopOf f)) asBodyStep ∙ first-long (loopOf f);
       retiming = refl;
     };
     classes = h .classes;

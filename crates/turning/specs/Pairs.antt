@@ -5,8 +5,8 @@ use Prim.Native.Nat.{ℕ}
 use Rattle.form.specs.declared.Form.{Form}
 use Rattle.form.specs.declared.BodyStep.{BodyStep}
 
-abbrev pub bodyStep : ℕ → BodyStep
-bodyStep n = record { 0 = n }
+abbrev pub asBodyStep : ℕ → BodyStep
+asBodyStep n = record { 0 = n }
 
 -- the form with the starts, length and retimings given
 unfoldable pub withPair : Form → List ℕ → ℕ → List ℕ → Form
@@ -20,6 +20,6 @@ withPair f s l r = record {
   from = f .from;
   to = f .to;
   delays = f .delays;
-  start = map bodyStep s;
+  start = map asBodyStep s;
   retiming = r;
 }

@@ -3,7 +3,7 @@
 use mathlib.Core.Path.{_≡_, refl, sym, ap, subst, _∙_}
 use mathlib.Core.Bool.{true, false}
 use mathlib.Core.Logic.{_⊎_, inl, inr, _≢_}
-use Prim.Native.Nat.{ℕ, _+_, _-_, _≤_, _<_}
+use Prim.Native.Nat.{ℕ, _+_, _≤_, _<_}
 use native.Mathlib.Decide.{decLt}
 use native.Mathlib.Omega.{arith}
 use borrow.Author.Tests.{ltb-false}
@@ -23,38 +23,38 @@ use Rattle.writer.specs.Layout.{layout}
 use Rattle.writer.specs.Writing.{refusalOf}
 use Rattle.record.specs.Held.{Held}
 use Rattle.record.specs.Written.{well-formed-written}
-use Rattle.legal.specs.Loop.{plain, reach, Loop, Pair, graphOf, loopOf, pairOf}
+use Rattle.legal.specs.Loop.{plain, bodies, Loop, Pair, graphOf, loopOf, pairOf}
 use Rattle.legal.specs.Legal.{Legal}
 use Rattle.legal.specs.Fitted.{Settles}
 use Rattle.legal.specs.Judging.{judgeOf}
 use Rattle.legal.specs.Judged.{accepts-judge}
-use Rattle.legal.specs.Shape.{sound-form, plain-form, Within, bodied-within}
+use Rattle.legal.specs.Shape.{sound-form, plain-form, WithinBodies, bodied-within}
 use Rattle.fit.specs.Retimed.{retimings}
 use Rattle.fit.specs.Retimings.{retimings-length, retimings-small, retimings-zero, retimedPair, retimings-legal}
-use Rattle.list_rule.specs.Rule.{startAt}
+use Rattle.list_rule.specs.Rule.{startNumber}
 use Rattle.list_rule.specs.Ends.{length-ends}
 use Rattle.list_rule.specs.Filling.{staffed-form}
 use Rattle.list_rule.specs.Tables.{numbersOf, startsOf}
 use Rattle.turning.specs.Turned.{gainedBy, droppedBy, dropped-at}
-use Rattle.turning.specs.TurnedLegal.{rule-past, turnedStarts, Tabled, turned-long, turned-filled, turned-length, turned-settles, turned-bodied, turned-unit-rule}
-use Rattle.turning.specs.Pairs.{bodyStep, withPair}
+use Rattle.turning.specs.TurnedLegal.{rule-past, turnedStarts, StartsTabled, turned-long, turned-filled, turned-length, turned-settles, turned-bodied, turned-unit-rule}
+use Rattle.turning.specs.Pairs.{asBodyStep, withPair}
 use Rattle.turning.specs.Rotation.{rotatedStarts, rotatedLength, rotated, tooLong}
 use Rattle.turning.specs.FirstLaws.{step-at}
 
-starts-at : (f : Form) (v : ℕ) → startAt (startsOf f) v ≡ startOf f v
+starts-at : (f : Form) (v : ℕ) → startNumber (startsOf f) v ≡ startOf f v
 unfolding startsOf numbersOf
 starts-at f v = List·getD-map (λ (b : BodyStep). b .0) (f .start) v noStep
 
-tabled : (f : Form) → length (f .start) ≡ 64 → Tabled (loopOf f) (pairOf f) (startsOf f)
+tabled : (f : Form) → length (f .start) ≡ 64 → StartsTabled (loopOf f) (pairOf f) (startsOf f)
 unfolding pairOf startsOf numbersOf
 tabled f n = record { long = length-map (f .start) (λ (b : BodyStep). b .0) ∙ n; is = λ v l. starts-at f v }
 
 -- the pair that the retiming is fitted to
 unfoldable turnedBy : Form → ℕ → Pair
-turnedBy f z = record { kind = plain; start = startAt (rotatedStarts f z); length = rotatedLength f z; retiming = gainedBy (pairOf f) z }
+turnedBy f z = record { kind = plain; start = startNumber (rotatedStarts f z); length = rotatedLength f z; retiming = gainedBy (pairOf f) z }
 
 module _ (f : Form) (w : WellFormed f) (legal : Legal (loopOf f) (pairOf f)) (z : ℕ) (one : 1 ≤ z) (below : z < f .length) (n : length (f .start) ≡ 64) where
-  placed : (v : ℕ) → v < loopOf f .graph .nodes → 0 < startAt (rotatedStarts f z) v
+  placed : (v : ℕ) → v < loopOf f .graph .nodes → 0 < startNumber (rotatedStarts f z) v
   unfolding rotatedStarts pairOf
   placed v l = turned-filled (loopOf f) (pairOf f) z (startsOf f) (sound-form f w) (plain-form f) legal (tabled f n) (staffed-form f w) one below (w .length) .placed v l
 
@@ -63,8 +63,8 @@ module _ (f : Form) (w : WellFormed f) (legal : Legal (loopOf f) (pairOf f)) (z 
   settles = turned-settles (loopOf f) (pairOf f) z (startsOf f) (sound-form f w) (plain-form f) legal (tabled f n) (staffed-form f w) one below (w .length) (turnedBy f z) (λ v l. refl) refl refl
 
   -- the pair's operations end in the body
-  turned-within : Within (loopOf f) (turnedBy f z) 1
-  unfolding turnedBy rotatedStarts rotatedLength pairOf reach
+  turned-within : WithinBodies (loopOf f) (turnedBy f z) 1
+  unfolding turnedBy rotatedStarts rotatedLength pairOf bodies
   turned-within =
       bodied-within (loopOf f) (turnedBy f z) (sound-form f w)
       (turned-bodied (loopOf f) (pairOf f) z (startsOf f) (sound-form f w) (plain-form f) legal (tabled f n) (staffed-form f w) one below (w .length) (turnedBy f z) (λ v l. refl) refl refl)
@@ -122,7 +122,7 @@ module _ (f : Form) (w : WellFormed f) (legal : Legal (loopOf f) (pairOf f)) (z 
         let some : rotated f z .length ≢ 0 = λ e. omega (arith, rotated-form-some) in
         accepts-judge (rotated f z) rotated-well-formed some (rotated-form-legal rotated-form-short)
 
-    small-start : Held f → (v : ℕ) → v < 64 → startAt (rotatedStarts f z) v < 65536
+    small-start : Held f → (v : ℕ) → v < 64 → startNumber (rotatedStarts f z) v < 65536
     unfolding rotatedStarts turnedStarts rotatedLength loopOf graphOf
     small-start h v m =
         elim (decLt v (f .nodes)) [
@@ -151,7 +151,7 @@ module _ (f : Form) (w : WellFormed f) (legal : Legal (loopOf f) (pairOf f)) (z 
         from = h .sized .from;
         to = h .sized .to;
         delays = h .sized .delays;
-        start = length-map (rotatedStarts f z) bodyStep ∙ table-long;
+        start = length-map (rotatedStarts f z) asBodyStep ∙ table-long;
         retiming = retimings-length (loopOf f) (turnedBy f z) (sound-form f w .few);
       };
       classes = h .classes;

@@ -9,7 +9,7 @@ use Rattle.lists.specs.Pick.{pick}
 use Rattle.form.specs.declared.Form.{Form}
 use Rattle.legal.specs.Loop.{plain, loopOf, pairOf}
 use Rattle.fit.specs.Retimed.{retimings}
-use Rattle.list_rule.specs.Rule.{startAt, lengthOf}
+use Rattle.list_rule.specs.Rule.{startNumber, lengthOf}
 use Rattle.list_rule.specs.FirstLegal.{firstStarts}
 use Rattle.turning.specs.Turned.{gainedBy}
 use Rattle.turning.specs.TurnedLegal.{turnedStarts}
@@ -33,7 +33,7 @@ module _ (f : Form) (z : ℕ) where
   unfoldable pub rotated : Form
   rotated =
       withPair f rotatedStarts rotatedLength
-      (retimings (loopOf f) (record { kind = plain; start = startAt rotatedStarts; length = rotatedLength; retiming = gainedBy (pairOf f) z }))
+      (retimings (loopOf f) (record { kind = plain; start = startNumber rotatedStarts; length = rotatedLength; retiming = gainedBy (pairOf f) z }))
 
   -- it would need more than 512 steps
   unfoldable pub tooLong : Bool

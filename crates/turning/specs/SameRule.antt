@@ -15,7 +15,7 @@ use Rattle.legal.specs.Loop.{Loop, latency}
 use Rattle.legal.specs.Shape.{Sound}
 use Rattle.reach.specs.Weight.{tight, spread, sweep, reach, reachedFrom, weight}
 use Rattle.list_rule.specs.Order.{orderOf}
-use Rattle.list_rule.specs.Rule.{startAt, free, blocks, ready, place, fillStep, allPlaced, fillFrom, listRule}
+use Rattle.list_rule.specs.Rule.{startNumber, free, blocks, ready, place, fillStep, allPlaced, fillFrom, listRule}
 
 fold-same : (f h : List ℕ → ℕ → List ℕ) (b : List ℕ) (a n : ℕ) → ((m : List ℕ) (i : ℕ) → i < a + n → f m i ≡ h m i) → fold f b (span a n) ≡ fold h b (span a n)
 unfolding fold span
@@ -48,11 +48,11 @@ module _ (g : Loop) (r x : ℕ → ℕ) (same : (e : ℕ) → e < g .graph .edge
   ready-same s p v =
       ap (λ (n : ℕ). eqb n 0)
       (count-same (λ e. eqb (g .graph .head e) v && blocks g r s p e) (λ e. eqb (g .graph .head e) v && blocks g x s p e) (g .graph .edges) (λ e l.
-      ap (λ (b : Bool). eqb (g .graph .head e) v && (b && (eqb (startAt s (g .graph .tail e)) 0 || ltb p (startAt s (g .graph .tail e) + latency g (g .graph .tail e))))) (same e l)))
+      ap (λ (b : Bool). eqb (g .graph .head e) v && (b && (eqb (startNumber s (g .graph .tail e)) 0 || ltb p (startNumber s (g .graph .tail e) + latency g (g .graph .tail e))))) (same e l)))
 
   place-same : (before : List ℕ) (p : ℕ) (s : List ℕ) (v : ℕ) → place g r before p s v ≡ place g x before p s v
   unfolding place
-  place-same before p s v = ap (λ (b : Bool). pick (eqb (startAt s v) 0 && (b && free g s p v)) (set s v p) s) (ready-same before p v)
+  place-same before p s v = ap (λ (b : Bool). pick (eqb (startNumber s v) 0 && (b && free g s p v)) (set s v p) s) (ready-same before p v)
 
   step-same : (order : List ℕ) (p : ℕ) (s : List ℕ) → fillStep g r order p s ≡ fillStep g x order p s
   unfolding fillStep

@@ -14,7 +14,7 @@ use Rattle.legal.specs.Legal.{Legal}
 use Rattle.legal.specs.Shape.{Sound, bodied-within, plain-ends}
 use Rattle.legal.specs.Limits.{LimitRule, edges-fit, timed}
 use Rattle.reach.specs.Weight.{tight}
-use Rattle.list_rule.specs.Rule.{startAt}
+use Rattle.list_rule.specs.Rule.{startNumber}
 use Rattle.list_rule.specs.Filling.{Ranked}
 
 -- nodes with a start of at most z gain 1
@@ -30,7 +30,7 @@ unfoldable pub turnedRank : Pair → ℕ → ℕ → ℕ
 turnedRank p z v = p .start v + pick (leb (p .start v) z) (p .length) 0
 
 -- node v is turned
-pub record Turns (p : Pair) (z v : ℕ) : Type 0 where
+pub record NodeTurns (p : Pair) (z v : ℕ) : Type 0 where
   pub early : p .start v ≤ z
   pub gain : gainedBy p z v ≡ p .retiming v + 1
   pub rank : turnedRank p z v ≡ p .start v + p .length
@@ -41,11 +41,11 @@ pub record Stays (p : Pair) (z v : ℕ) : Type 0 where
   pub gain : gainedBy p z v ≡ p .retiming v
   pub rank : turnedRank p z v ≡ p .start v
 
-pub turns-or-stays : (p : Pair) (z v : ℕ) → Turns p z v ⊎ Stays p z v
+pub turns-or-stays : (p : Pair) (z v : ℕ) → NodeTurns p z v ⊎ Stays p z v
 unfolding gainedBy turnedRank
 turns-or-stays p z v = go (leb (p .start v) z) refl
   where
-    go : (b : Bool) → leb (p .start v) z ≡ b → Turns p z v ⊎ Stays p z v
+    go : (b : Bool) → leb (p .start v) z ≡ b → NodeTurns p z v ⊎ Stays p z v
     go true e =
         inl (record { early = leb-true _ _ e; gain = omega (arith, pick-true {A = ℕ} (leb (p .start v) z) 1 0 e); rank = omega (arith, pick-true {A = ℕ} (leb (p .start v) z) (p .length) 0 e) })
     go false e =
@@ -56,7 +56,7 @@ turns-or-stays p z v = go (leb (p .start v) z) refl
         })
 
 -- what the table holds after the drop
-pub dropped-at : (z : ℕ) (s : List ℕ) (v : ℕ) → startAt (droppedBy z s) v ≡ startAt s v - z
+pub dropped-at : (z : ℕ) (s : List ℕ) (v : ℕ) → startNumber (droppedBy z s) v ≡ startNumber s v - z
 unfolding droppedBy
 dropped-at z [] v = omega arith
 dropped-at z (a ∷ s) zero = refl
@@ -81,7 +81,7 @@ module _ (g : Loop) (p : Pair) (z : ℕ) (sound : Sound g) (is-plain : p .kind �
       (turns-or-stays p z (g .graph .tail e))
 
   -- where it is 0 a tail that is turned has a head that is
-  pub tight-turns : (e : ℕ) → e < g .graph .edges → tight g (gainedBy p z) e ≡ true → Turns p z (g .graph .tail e) → Turns p z (g .graph .head e)
+  pub tight-turns : (e : ℕ) → e < g .graph .edges → tight g (gainedBy p z) e ≡ true → NodeTurns p z (g .graph .tail e) → NodeTurns p z (g .graph .head e)
   unfolding tight
   tight-turns e l t u =
       let k = limit e l in

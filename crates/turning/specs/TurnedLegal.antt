@@ -24,12 +24,12 @@ use Rattle.legal.specs.Limits.{timed}
 use Rattle.legal.specs.Fitted.{Settles, fits-settles, fittedPair, fitted-legal}
 use Rattle.reach.specs.Weight.{tight, weight}
 use Rattle.list_rule.specs.Order.{orderOf}
-use Rattle.list_rule.specs.Rule.{startAt, uses, inUse, place, fillStep, listRule, lengthOf}
+use Rattle.list_rule.specs.Rule.{startNumber, uses, inUse, place, fillStep, listRule, lengthOf}
 use Rattle.list_rule.specs.Kept.{Keeps, place-ind, fill-ind, fill-keeps, fill-length}
 use Rattle.list_rule.specs.Units.{Kept, uses-told, rule-units, in-use-busy}
 use Rattle.list_rule.specs.Edges.{InTime, rule-in-time}
 use Rattle.list_rule.specs.Ends.{work, work-bound, length-ends}
-use Rattle.list_rule.specs.Filling.{Staffed, Nodes, order-whole, Within, Filled, filled-length}
+use Rattle.list_rule.specs.Filling.{Staffed, Nodes, order-whole, TableEndsBy, Filled, filled-length}
 use Rattle.list_rule.specs.Placed.{rule-places}
 use Rattle.turning.specs.Turned.{gainedBy, droppedBy, dropped-at, turns-or-stays, turned-over, tight-turns, stays-in-time, turned-ranked}
 
@@ -40,24 +40,24 @@ rule-keeps g r s = fill-keeps g r _ 1023 1 s
 
 -- and what stands past the nodes
 module _ (g : Loop) (r : ℕ → ℕ) (w : ℕ) (past : g .graph .nodes ≤ w) where
-  fold-past : (before : List ℕ) (p : ℕ) (vs s : List ℕ) → Nodes g vs → startAt (fold (place g r before p) s vs) w ≡ startAt s w
+  fold-past : (before : List ℕ) (p : ℕ) (vs s : List ℕ) → Nodes g vs → startNumber (fold (place g r before p) s vs) w ≡ startNumber s w
   unfolding fold
   fold-past before p [] s h = refl
   fold-past before p (v ∷ vs) s h =
       let lv = h 0 (omega arith) in
       fold-past before p vs (place g r before p s v) (λ i j. h (suc i) (suc-le-suc j))
-      ∙ place-ind g r (λ t. startAt t w ≡ startAt s w) before p s v refl (λ k.
+      ∙ place-ind g r (λ t. startNumber t w ≡ startNumber s w) before p s v refl (λ k.
       ⊎-elim (λ q. absurd (omega (arith, q .0, lv))) (λ q. q) (set-view s v p w))
 
-  step-past : (order : List ℕ) → Nodes g order → (p : ℕ) (s : List ℕ) → startAt (fillStep g r order p s) w ≡ startAt s w
+  step-past : (order : List ℕ) → Nodes g order → (p : ℕ) (s : List ℕ) → startNumber (fillStep g r order p s) w ≡ startNumber s w
   unfolding fillStep
   step-past order h p s = fold-past s p order s h
 
-  pub rule-past : (s : List ℕ) → startAt (listRule g r s) w ≡ startAt s w
+  pub rule-past : (s : List ℕ) → startNumber (listRule g r s) w ≡ startNumber s w
   unfolding listRule
   rule-past s =
       let order = orderOf (weight g r) (g .graph .nodes) in
-      fill-ind g r (λ t. startAt t w ≡ startAt s w) order (λ p t k. step-past order (order-whole g (weight g r) .nodes) p t ∙ k) 1023 1 s refl
+      fill-ind g r (λ t. startNumber t w ≡ startNumber s w) order (λ p t k. step-past order (order-whole g (weight g r) .nodes) p t ∙ k) 1023 1 s refl
 
 -- the starts after a rotation by z steps of the pair with the starts s
 unfoldable pub turnedStarts : Loop → Pair → ℕ → List ℕ → List ℕ
@@ -65,23 +65,23 @@ turnedStarts g p z s = listRule g (gainedBy p z) (droppedBy z s)
 
 -- the pair that they make, with the retimings after the gain
 unfoldable pub turnedPair : Loop → Pair → ℕ → List ℕ → Pair
-turnedPair g p z s = record { kind = plain; start = startAt (turnedStarts g p z s); length = lengthOf g (turnedStarts g p z s); retiming = gainedBy p z }
+turnedPair g p z s = record { kind = plain; start = startNumber (turnedStarts g p z s); length = lengthOf g (turnedStarts g p z s); retiming = gainedBy p z }
 
 -- and with the retiming fitted afresh
 unfoldable pub rotated : Loop → Pair → ℕ → List ℕ → Pair
 rotated g p z s = fittedPair g (turnedPair g p z s)
 
 -- a table of 64 places with the pair's starts
-pub record Tabled (g : Loop) (p : Pair) (s : List ℕ) : Type 0 where
+pub record StartsTabled (g : Loop) (p : Pair) (s : List ℕ) : Type 0 where
   pub long : length s ≡ 64
-  pub is : (v : ℕ) → v < g .graph .nodes → startAt s v ≡ p .start v
+  pub is : (v : ℕ) → v < g .graph .nodes → startNumber s v ≡ p .start v
 
-module _ (g : Loop) (p : Pair) (z : ℕ) (s : List ℕ) (sound : Sound g) (is-plain : p .kind ≡ plain) (legal : Legal g p) (tabled : Tabled g p s) where
+module _ (g : Loop) (p : Pair) (z : ℕ) (s : List ℕ) (sound : Sound g) (is-plain : p .kind ≡ plain) (legal : Legal g p) (tabled : StartsTabled g p s) where
   -- the table after the drop
-  dropped : (v : ℕ) → v < g .graph .nodes → startAt (droppedBy z s) v ≡ p .start v - z
+  dropped : (v : ℕ) → v < g .graph .nodes → startNumber (droppedBy z s) v ≡ p .start v - z
   dropped v l = omega (arith, dropped-at z s v, tabled .is v l)
 
-  dropped-within : z < p .length → Within g (droppedBy z s) (p .length - z)
+  dropped-within : z < p .length → TableEndsBy g (droppedBy z s) (p .length - z)
   unfolding droppedBy
   dropped-within below = record {
     long = omega (arith, length-map s (λ a. a - z), tabled .long, sound .few);
@@ -93,23 +93,11 @@ module _ (g : Loop) (p : Pair) (z : ℕ) (s : List ℕ) (sound : Sound g) (is-pl
   unfolding turnedStarts listRule droppedBy
   turned-long = fill-length g (gainedBy p z) _ 1023 1 (droppedBy z s) ∙ length-map s (λ a. a - z) ∙ tabled .long
 
-  -- with 0 past the nodes where there was
-  pub turned-past : (v : ℕ) → g .graph .nodes ≤ v → startAt s v ≡ 0 → startAt (turnedStarts g p z s) v ≡ 0
-  unfolding turnedStarts
-  turned-past v h e = omega (arith, rule-past g (gainedBy p z) v h (droppedBy z s), dropped-at z s v)
-
   -- every node is placed
   pub turned-filled : Staffed g → 1 ≤ z → z < p .length → p .length ≤ 512 → Filled g (turnedStarts g p z s) (p .length - z + work g (droppedBy z s))
   unfolding turnedStarts
   turned-filled staffed one below short =
       rule-places g (gainedBy p z) sound staffed (turned-ranked g p z sound is-plain legal) (droppedBy z s) (p .length - z) (dropped-within below) (omega arith)
-
-  -- a node that stays starts z steps earlier
-  pub turned-stays : (v : ℕ) → v < g .graph .nodes → z < p .start v → startAt (turnedStarts g p z s) v ≡ p .start v - z
-  unfolding turnedStarts
-  turned-stays v l h =
-      let d = dropped v l in
-      omega (arith, d, rule-keeps g (gainedBy p z) (droppedBy z s) v (omega (arith, d)))
 
   -- ---- the unit rule
 
@@ -185,7 +173,7 @@ module _ (g : Loop) (p : Pair) (z : ℕ) (s : List ℕ) (sound : Sound g) (is-pl
         let w = filled-length g (turnedStarts g p z s) (p .length - z + work g (droppedBy z s)) sound filled in
         (w .0, omega (arith, w .1, work-bound g (droppedBy z s) 8 (sound .short), sound .few))
 
-    module _ (q : Pair) (same : (v : ℕ) → v < g .graph .nodes → q .start v ≡ startAt (turnedStarts g p z s) v) where
+    module _ (q : Pair) (same : (v : ℕ) → v < g .graph .nodes → q .start v ≡ startNumber (turnedStarts g p z s) v) where
       module _ (kind : q .kind ≡ plain) (long : q .length ≡ lengthOf g (turnedStarts g p z s)) where
         -- every node starts in the body and ends in it
         pub turned-bodied : Bodied g q
@@ -229,16 +217,7 @@ module _ (g : Loop) (p : Pair) (z : ℕ) (s : List ℕ) (sound : Sound g) (is-pl
 
     -- ---- the rotation itself
 
-    pub rotated-settles : Settles g (turnedPair g p z s)
-    unfolding turnedPair
-    rotated-settles = turned-settles (turnedPair g p z s) (λ v l. refl) refl refl
-
     -- rotation of a legal pair gives a legal pair, unless that has more than 512 steps
     pub rotated-legal : lengthOf g (turnedStarts g p z s) ≤ 512 → Legal g (rotated g p z s)
     unfolding rotated turnedPair
     rotated-legal short = turned-legal (turnedPair g p z s) (λ v l. refl) refl refl short
-
-    -- whose starts the table holds
-    pub rotated-tabled : Tabled g (rotated g p z s) (turnedStarts g p z s)
-    unfolding rotated turnedPair
-    rotated-tabled = record { long = turned-long; is = λ v l. refl }

@@ -10,7 +10,7 @@ ghost use Rattle.form.specs.Ranges.{WellFormed};
 ghost use Rattle.legal.specs.Legal.{Legal};
 ghost use Rattle.legal.specs.Loop.{loopOf, pairOf};
 ghost use Rattle.legal.specs.Systems.{knotted};
-ghost use Rattle.list_rule.specs.Rule.{startAt, lengthOf};
+ghost use Rattle.list_rule.specs.Rule.{startNumber, lengthOf};
 ghost use Rattle.list_rule.specs.Tables.{numbersOf};
 ghost use Rattle.turning.specs.Turned.{gainedBy, droppedBy};
 ghost use Rattle.turning.specs.Pairs.{withPair};
@@ -21,7 +21,7 @@ use form::Form;
 // The length of a body: the last step in which a node that starts as given is at work.
 fn length_of(form: Form, start: [BodyStep; 64]) -> u16
     requires { ⌜ WellFormed form ⌝ }
-    requires { ⌜ ((v : ℕ) → v < form .nodes → startAt (numbersOf start) v ≤ 1023) ⌝ }
+    requires { ⌜ ((v : ℕ) → v < form .nodes → startNumber (numbersOf start) v ≤ 1023) ⌝ }
     ensures { λ r. ⌜ r ≡ lengthOf (loopOf form) (numbersOf start) ⌝ }
 {
     let mut last: u16 = 0;

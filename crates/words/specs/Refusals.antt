@@ -9,36 +9,7 @@ use Rattle.laid.specs.Rows.{rows}
 use Rattle.text.specs.Decimal.{newline}
 use Rattle.text.specs.Words.{refusedWord}
 use Rattle.words.specs.Numbers.{numeral}
-use Rattle.words.specs.Words.{
-  shortWord,
-  markWord,
-  versionWord,
-  countWord,
-  machineWord,
-  nodeWord,
-  edgeWord,
-  startWord,
-  retimingWord,
-  fieldWord,
-  tailWord,
-  bareWord,
-  knotWord,
-  dependenceWord,
-  fromWord,
-  toWord,
-  noRetimingWord,
-  unitsWord,
-  classWord,
-  sizeWord,
-  stepsWord,
-  longWord,
-  roomWord,
-  roomEnd,
-  earlyWord,
-  busyWord,
-  atNodeWord,
-  atEdgeWord,
-}
+use Rattle.words.specs.Words.{shortWord, markWord, versionWord, countWord, machineWord, nodeWord, edgeWord, startWord, retimingWord, fieldWord, tailWord, bareWord, knotWord, dependenceWord, fromWord, toWord, noRetimingWord, unitsStepWord, thenClassWord, sizeWord, stepsWord, longWord, roomWord, roomEnd, earlyWord, busyWord, atNodeWord, atEdgeWord}
 
 -- a field of the record by its offset
 unfoldable pub offsetText : List ℕ → ℕ → List ℕ
@@ -91,12 +62,12 @@ module _ (answer : List ℕ) (from to : ℕ) where
       ∷ cycleText knotWord answer
       ∷ threeText dependenceWord (detail 1) fromWord from toWord to
       ∷ cycleText noRetimingWord answer
-      ∷ twoText unitsWord (detail 1) classWord (detail 2)
+      ∷ twoText unitsStepWord (detail 1) thenClassWord (detail 2)
       ∷ (oneText sizeWord (detail 1) ++ stepsWord)
       ∷ longWord
       ∷ (oneText roomWord (detail 1) ++ roomEnd)
       ∷ threeText earlyWord (detail 1) atNodeWord (detail 2) atEdgeWord (detail 3)
-      ∷ threeText busyWord (detail 1) atNodeWord (detail 2) classWord (detail 3)
+      ∷ threeText busyWord (detail 1) atNodeWord (detail 2) thenClassWord (detail 3)
       ∷ []
 
   -- the name and the details of the refusal that the answer holds

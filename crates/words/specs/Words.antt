@@ -72,12 +72,12 @@ unfoldable pub noRetimingWord : List ℕ
 noRetimingWord = 78 ∷ 111 ∷ 82 ∷ 101 ∷ 116 ∷ 105 ∷ 109 ∷ 105 ∷ 110 ∷ 103 ∷ 58 ∷ 32 ∷ 99 ∷ 121 ∷ 99 ∷ 108 ∷ 101 ∷ 32 ∷ 111 ∷ 102 ∷ 32 ∷ 101 ∷ 100 ∷ 103 ∷ 101 ∷ 115 ∷ []
 
 -- "Units: step "
-unfoldable pub unitsWord : List ℕ
-unitsWord = 85 ∷ 110 ∷ 105 ∷ 116 ∷ 115 ∷ 58 ∷ 32 ∷ 115 ∷ 116 ∷ 101 ∷ 112 ∷ 32 ∷ []
+unfoldable pub unitsStepWord : List ℕ
+unitsStepWord = 85 ∷ 110 ∷ 105 ∷ 116 ∷ 115 ∷ 58 ∷ 32 ∷ 115 ∷ 116 ∷ 101 ∷ 112 ∷ 32 ∷ []
 
 -- ", class "
-unfoldable pub classWord : List ℕ
-classWord = 44 ∷ 32 ∷ 99 ∷ 108 ∷ 97 ∷ 115 ∷ 115 ∷ 32 ∷ []
+unfoldable pub thenClassWord : List ℕ
+thenClassWord = 44 ∷ 32 ∷ 99 ∷ 108 ∷ 97 ∷ 115 ∷ 115 ∷ 32 ∷ []
 
 -- "Size: "
 unfoldable pub sizeWord : List ℕ

@@ -1,7 +1,7 @@
 -- `drawing::put_rows` meets its contract: the loop's invariant is that the first rows are laid.
 -- Assumes nothing.
 use mathlib.Core.Path.{_≡_}
-use Prim.Native.Nat.{_≤_, _<_, _+_, _-_, _*_}
+use Prim.Native.Nat.{_≤_, _+_, _-_, _*_}
 use native.Mathlib.Omega.{arith}
 use Rattle.laid.specs.Laid.{Laid}
 use Rattle.laid.specs.Rows.{rows}

@@ -11,20 +11,20 @@ use Rattle.tables.specs.Lent.{lent-ends, lent-sound}
 use Rattle.rules.specs.Busy.{seated-form}
 use Rattle.rules.specs.Lowest.{starts-in}
 use Rattle.fit.specs.Tables.{described}
-use Rattle.fit.specs.Planned.{Planned}
+use Rattle.fit.specs.Planned.{FitPlanned}
 use Rattle.fit.proofs.Plans.{plan-bare, plan-knot, plan-unfit, plan-fits}
 use Rattle.fit.proofs.plan_tables.Statement.{statement}
 use Rattle.fit.proofs.plan_tables.Tie as tie
 
 returns : tie.Need-returns
-returns c f lent = subst (Planned f) (sym (c .unplanned .ensures)) (plan-bare f (no-length f _ (lent .timed) (omega (arith, c .before .before .if1 .taken))) _ (c .before .none .ensures) _)
+returns c f lent = subst (FitPlanned f) (sym (c .unplanned .ensures)) (plan-bare f (no-length f _ (lent .timed) (omega (arith, c .before .before .if1 .taken))) _ (c .before .none .ensures) _)
 
 knot-of-requires : tie.Need-knot-of-requires
 knot-of-requires c κs = let f = c .before .before .pre in lent-ends (f .0) _ _ _ _ _ (f .1)
 
 returns-2 : tie.Need-returns-2
 returns-2 c f lent =
-    subst (Planned f) (sym (c .unplanned2 .ensures))
+    subst (FitPlanned f) (sym (c .unplanned2 .ensures))
     (plan-knot f (some-length f _ (lent .timed) (c .before .before .before .before .if1 .left)) _ (c .before .before .before .knot-of .ensures _ (lent .told)) (c .before .if2 .taken) _)
 
 limits-of-requires : tie.Need-limits-of-requires
@@ -49,7 +49,7 @@ fit-limits-requires c κs =
 returns-3 : tie.Need-returns-3
 returns-3 c f lent =
     let some = some-length f _ (lent .timed) (c .before .before .before .before .before .before .before .before .before .if1 .left) in
-    subst (Planned f) (sym (c .unplanned3 .ensures))
+    subst (FitPlanned f) (sym (c .unplanned3 .ensures))
     (plan-unfit f some _ (c .before .before .before .before .before .before .before .before .knot-of .ensures _ (lent .told)) (c .before .before .before .before .before .before .if2 .left) _
     (c .before .before .before .before .fit-limits .ensures _ _ (described _ _ _ _ _ _ _ _ _ (sound-form f (lent .good)) (within-form f (lent .good) some) (lent .told) (c .before .before .before .before .before .limits-of .ensures _ _ (lent .told) (lent .timed))))
     (not-true _ (c .before .if3 .taken)) _)

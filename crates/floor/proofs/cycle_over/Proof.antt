@@ -1,14 +1,10 @@
 -- `floor::cycle_over` meets its contract: the length where it is enough, else the least that is.
 -- Assumes nothing.
-use mathlib.Core.Path.{_≡_, sym, _∙_}
-use mathlib.Core.Bool.{true, false}
-use Prim.Native.Nat.{_≤_, _<_}
+use mathlib.Core.Path.{sym, _∙_}
 use native.Mathlib.Omega.{arith}
-use native.Mathlib.Decide.{decLe}
 use borrow.Author.Needs.{needs}
-use Rattle.lists.specs.Pick.{both-ways}
 use Rattle.legal.specs.Knots.{unknotted-free}
-use Rattle.floor.specs.Least.{enough, enough-over, over-short}
+use Rattle.floor.specs.Least.{enough-over, over-short}
 use Rattle.floor.proofs.cycle_over.Statement.{statement}
 use Rattle.floor.proofs.cycle_over.Tie as tie
 

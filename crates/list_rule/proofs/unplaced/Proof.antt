@@ -10,7 +10,7 @@ use borrow.Author.Needs.{needs}
 use borrow.Author.Tests.{eq-eqb, ne-eqb}
 use Rattle.lists.specs.Span.{span}
 use Rattle.lists.specs.Fold.{count}
-use Rattle.list_rule.specs.Rule.{startAt}
+use Rattle.list_rule.specs.Rule.{startNumber}
 use Rattle.list_rule.specs.Tables.{numbersOf}
 use Rattle.list_rule.proofs.Laws.{number-at, adds-one, adds-none, count-more}
 use Rattle.list_rule.proofs.unplaced.Statement.{statement}
@@ -18,7 +18,7 @@ use Rattle.list_rule.proofs.unplaced.Tie as tie
 
 -- how many of the first v nodes are not placed
 abbrev unplacedOf : List ℕ → ℕ → ℕ
-unplacedOf s v = count (λ u. eqb (startAt s u) 0) (span 0 v)
+unplacedOf s v = count (λ u. eqb (startNumber s u) 0) (span 0 v)
 
 abbrev Inv-loop : tie.InvT-loop
 Inv-loop nodes start left₀ v₀ left v = (v ≤ nodes) × (left ≤ v) × (left ≡ unplacedOf (numbersOf start) v)
@@ -34,11 +34,11 @@ loop-again : tie.Need-loop-again Inv-loop μ-loop
 loop-again c =
     let l = c .before .before in
     let a = l .before .args in
-    let more = count-more (λ u. eqb (startAt (numbersOf (a .t2)) u) 0) (l .loop .v) in
+    let more = count-more (λ u. eqb (startNumber (numbersOf (a .t2)) u) 0) (l .loop .v) in
     let at = number-at (a .t2) (l .loop .v) in
     ⊎-elim
-    (λ w. omega (arith, more, adds-one _ (eq-eqb (startAt (numbersOf (a .t2)) (l .loop .v)) 0 (omega arith))))
-    (λ w. omega (arith, more, adds-none _ (ne-eqb (startAt (numbersOf (a .t2)) (l .loop .v)) 0 (λ e. w .0 .left (omega arith)))))
+    (λ w. omega (arith, more, adds-one _ (eq-eqb (startNumber (numbersOf (a .t2)) (l .loop .v)) 0 (omega arith))))
+    (λ w. omega (arith, more, adds-none _ (ne-eqb (startNumber (numbersOf (a .t2)) (l .loop .v)) 0 (λ e. w .0 .left (omega arith)))))
     (c .if1 .came)
 
 returns : tie.Need-returns Inv-loop μ-loop

@@ -4,14 +4,14 @@ use Prim.Native.Nat.{_≤_, _<_, _-_}
 use native.Mathlib.Omega.{arith}
 use lib.ListN.{getD}
 use borrow.Author.Needs.{needs}
-use Rattle.list_rule.specs.Tables.{numbersOf, Waits}
+use Rattle.list_rule.specs.Tables.{numbersOf, WaitsTabled}
 use Rattle.list_rule.proofs.Waits.{waits-none, waits-more, waits-all, waits-fits}
 use Rattle.list_rule.proofs.waiting.Statement.{statement}
 use Rattle.list_rule.proofs.waiting.Tie as tie
 
 abbrev Inv-loop : tie.InvT-loop
 Inv-loop edges from to delays retiming latency step start waits₀ e₀ waits e =
-    (e ≤ edges) × Waits from to delays retiming latency (numbersOf start) step e waits
+    (e ≤ edges) × WaitsTabled from to delays retiming latency (numbersOf start) step e waits
 
 abbrev μ-loop : tie.MeasureT-loop
 μ-loop edges from to delays retiming latency step start waits₀ e₀ waits e = edges - e

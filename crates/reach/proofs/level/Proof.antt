@@ -5,7 +5,7 @@ use Prim.Native.Nat.{ℕ, _-_, _≤_}
 use native.Mathlib.Omega.{arith}
 use borrow.Author.Needs.{needs}
 use Rattle.legal.specs.Loop.{Loop}
-use Rattle.reach.specs.Tables.{Tells}
+use Rattle.reach.specs.Tables.{TellsTight}
 use Rattle.reach.specs.Marking.{Queued, Marking, None}
 use Rattle.reach.proofs.Marks.{queued-few, leaves-queue}
 use Rattle.reach.proofs.level.Statement.{statement}
@@ -14,7 +14,7 @@ use Rattle.reach.proofs.level.Tie as tie
 abbrev Inv-loop : tie.InvT-loop
 Inv-loop marks₀ queue₀ from to edges first next heads tights end₀ i₀ marks queue end i =
     (i ≤ to) × Queued marks queue end × (to ≤ end)
-    × ((g : Loop) (r : ℕ → ℕ) (v : ℕ) → Tells g r edges first next heads tights → Marking g r v marks₀ queue₀ from to None → Marking g r v marks queue i end None)
+    × ((g : Loop) (r : ℕ → ℕ) (v : ℕ) → TellsTight g r edges first next heads tights → Marking g r v marks₀ queue₀ from to None → Marking g r v marks queue i end None)
 
 abbrev μ-loop : tie.MeasureT-loop
 μ-loop marks₀ queue₀ from to edges first next heads tights end₀ i₀ marks queue end i = to - i

@@ -5,7 +5,7 @@ use native.Mathlib.Omega.{arith}
 use borrow.Author.Needs.{needs}
 use Rattle.legal.specs.Loop.{Loop}
 use Rattle.reach.specs.Reached.{Marked}
-use Rattle.reach.specs.Tables.{Tells}
+use Rattle.reach.specs.Tables.{TellsTight}
 use Rattle.reach.specs.Marking.{Queued, Marking, OutFrom}
 use Rattle.reach.proofs.Marks.{Halfway, half-first, half-next, half-end}
 use Rattle.reach.proofs.spread.Statement.{statement}
@@ -14,7 +14,7 @@ use Rattle.reach.proofs.spread.Tie as tie
 abbrev Inv-loop : tie.InvT-loop
 Inv-loop marks₀ queue₀ node from edges first next heads tights end₀ e₀ marks queue end e =
     (e ≤ edges) × Queued marks queue end × (from ≤ end)
-    × ((g : Loop) (r : ℕ → ℕ) (v f : ℕ) → Tells g r edges first next heads tights → Marked marks₀ node → Marking g r v marks₀ queue₀ f from (OutFrom g node 0)
+    × ((g : Loop) (r : ℕ → ℕ) (v f : ℕ) → TellsTight g r edges first next heads tights → Marked marks₀ node → Marking g r v marks₀ queue₀ f from (OutFrom g node 0)
     → Halfway g r v node marks queue f end e)
 
 abbrev μ-loop : tie.MeasureT-loop

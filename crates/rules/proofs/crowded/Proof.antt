@@ -1,10 +1,8 @@
 -- `rules::crowded` meets its contract: the lowest of step 1 and of the nodes passed is kept, and the lowest of all is the lowest there is.
 -- Assumes nothing.
-use mathlib.Core.Path.{_≡_, refl, sym, _∙_, subst}
 use mathlib.Core.Logic.{inl, inr, ⊎-elim}
-use Prim.Native.Nat.{ℕ, _≤_, _<_, _-_}
+use Prim.Native.Nat.{_≤_, _<_, _-_}
 use native.Mathlib.Omega.{arith}
-use native.Mathlib.Nat.{eq-or-lt-of-le}
 use lib.ListN.{getD}
 use borrow.Author.Needs.{needs}
 use Rattle.legal.specs.Loop.{Loop, Pair}

@@ -4,7 +4,7 @@ use mathlib.Core.Path.{_≡_}
 use lib.ListN.{length}
 use borrow.Author.Needs.{needs}
 use Rattle.form.specs.Ranges.{WellFormed}
-use Rattle.list_rule.specs.Tables.{startsOf, Ends}
+use Rattle.list_rule.specs.Tables.{startsOf, EndsInBody}
 use Rattle.list_rule.proofs.Laws.{tests}
 use Rattle.turning.proofs.Firsts.{weighs}
 use Rattle.turning.proofs.Rotations.{turn-good, turn-ends, turn-soon, turn-is}
@@ -21,7 +21,7 @@ good c =
     let a = c .before .before .before .before .pre in
     turn-good _ (a .0 .0) (a .0 .1) _ (a .1 .0) (a .1 .1) (long (c .before .before .before .before)) _ _ (c .before .before .dropped .ensures) (c .before .gained .ensures) _ (c .with-pair .ensures)
 
-ends : (c : tie.After-with-pair) → Ends (c .with-pair .result)
+ends : (c : tie.After-with-pair) → EndsInBody (c .with-pair .result)
 unfolding startsOf
 ends c =
     let a = c .before .before .before .before .pre in

@@ -3,7 +3,7 @@
 use Prim.Native.Nat.{_-_, _≤_}
 use native.Mathlib.Omega.{arith}
 use borrow.Author.Needs.{needs}
-use Rattle.words.specs.Words.{sizeWord, stepsWord, longWord, earlyWord, atNodeWord, atEdgeWord, busyWord, classWord}
+use Rattle.words.specs.Words.{sizeWord, stepsWord, longWord, earlyWord, atNodeWord, atEdgeWord, busyWord, thenClassWord}
 use Rattle.words.specs.Refusals.{ruleTexts}
 use Rattle.words.proofs.Laws.{named-rule, unnamed, not-lowest}
 use Rattle.words.proofs.put_limit.Statement.{statement}
@@ -26,7 +26,7 @@ unfolding ruleTexts earlyWord atNodeWord atEdgeWord
 returns-4 c = (omega arith, named-rule _ _ (ruleTexts (c .before .before .before .before .before .before .before .before .before .before .before .before .args .answer .now) (c .before .before .before .before .before .before .before .before .before .before .before .before .args .from) (c .before .before .before .before .before .before .before .before .before .before .before .before .args .to)) _ _ _ 19 (c .before .before .before .before .before .before .before .match .keys4) (c .before .before .put-three .ensures .1))
 
 returns-5 : tie.Need-returns-5
-unfolding ruleTexts busyWord atNodeWord classWord
+unfolding ruleTexts busyWord atNodeWord thenClassWord
 returns-5 c = (omega arith, named-rule _ _ (ruleTexts (c .before .before .before .before .before .before .before .before .before .before .before .before .args .answer .now) (c .before .before .before .before .before .before .before .before .before .before .before .before .args .from) (c .before .before .before .before .before .before .before .before .before .before .before .before .args .to)) _ _ _ 20 (c .before .before .before .before .before .before .before .match .keys5) (c .before .before .put-three2 .ensures .1))
 
 returns-6 : tie.Need-returns-6

@@ -2,7 +2,7 @@
 -- Assumes nothing.
 use native.Mathlib.Omega.{arith}
 use borrow.Author.Needs.{needs}
-use Rattle.words.specs.Words.{bareWord, knotWord, dependenceWord, fromWord, toWord, noRetimingWord, unitsWord, classWord}
+use Rattle.words.specs.Words.{bareWord, knotWord, dependenceWord, fromWord, toWord, noRetimingWord, unitsStepWord, thenClassWord}
 use Rattle.words.specs.Refusals.{ruleTexts}
 use Rattle.words.proofs.Laws.{named-rule}
 use Rattle.words.proofs.put_rule.Statement.{statement}
@@ -25,7 +25,7 @@ unfolding ruleTexts noRetimingWord
 returns-4 c = (omega arith, named-rule _ _ (ruleTexts (c .before .before .before .before .before .before .before .before .args .answer .now) (c .before .before .before .before .before .before .before .before .args .from) (c .before .before .before .before .before .before .before .before .args .to)) _ _ _ 14 (c .before .before .before .before .before .match .keys4) (c .before .before .put-cycle2 .ensures .1))
 
 returns-5 : tie.Need-returns-5
-unfolding ruleTexts unitsWord classWord
+unfolding ruleTexts unitsStepWord thenClassWord
 returns-5 c = (omega arith, named-rule _ _ (ruleTexts (c .before .before .before .before .before .before .before .before .before .before .args .answer .now) (c .before .before .before .before .before .before .before .before .before .before .args .from) (c .before .before .before .before .before .before .before .before .before .before .args .to)) _ _ (c .before .before .before .before .before .before .before .before .before .before .args .number) 15 (omega arith) (c .before .before .put-two .ensures .1))
 
 pub put-rule-spec : {M : Type 1} → statement M
