@@ -64,7 +64,7 @@ use Rattle.system.specs.System.{System, Solves, LosingWalk}
 use Rattle.system.specs.Rounds.{settledOf}
 use Rattle.system.specs.Laws as settling
 use Rattle.system.specs.Walks.{sound}
-use Rattle.legal.specs.Shape.{Bodied, WithinBodies as EndsWithin, bodied-within}
+use Rattle.legal.specs.Shape.{Bodied, WithinBodies, bodied-within}
 use Rattle.legal.specs.Knots.{knot-impossible}
 use Rattle.legal.specs.Fitted.{fittedDepth, Settles, depth-bound}
 use Rattle.legal.specs.Paced.{latencies}
@@ -176,7 +176,7 @@ pub knot-unfit : (g : Loop) (p : Pair) → Sound g → Bodied g p → (es : List
 knot-unfit g p s b = knot-impossible g p s _ (bodied-within g p s b)
 
 -- the depth of a retiming that is given never exceeds 63, where the operations end in the body
-pub fitted-shallow : (g : Loop) (p : Pair) → Sound g → Settles g p → EndsWithin g p 1 → fittedDepth g p ≤ 63
+pub fitted-shallow : (g : Loop) (p : Pair) → Sound g → Settles g p → WithinBodies g p 1 → fittedDepth g p ≤ 63
 fitted-shallow g p s q b = depth-bound g p s q 1 b
 
 -- ---- the system behind knots, fits and the floor
@@ -254,7 +254,7 @@ pub weight-once : (P : ℕ → Type 0) (n w x : ℕ) → Numbers P n w → Numbe
 weight-once = numbers-once
 
 -- the list rule places every node, from starts that end by step 511
-pub list-rule-places : (g : Loop) (r : ℕ → ℕ) → Sound g → filling.Staffed g → filling.Ranked g r → (s : List ℕ) (m : ℕ) → filling.Within g s m → m ≤ 511
+pub list-rule-places : (g : Loop) (r : ℕ → ℕ) → Sound g → filling.Staffed g → filling.Ranked g r → (s : List ℕ) (m : ℕ) → filling.TableEndsBy g s m → m ≤ 511
     → (v : ℕ) → v < g .graph .nodes → 1 ≤ startNumber (listRule g r s) v
 list-rule-places g r sound staffed ranked s m within l v h = rule-places g r sound staffed ranked s m within l .placed v h
 
