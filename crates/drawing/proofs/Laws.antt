@@ -114,41 +114,41 @@ head-put l at c u m o p n e g h is x y z = both l at barWord _ m p e h x (both m
 -- ---- the places of a class in a step
 
 -- the place of one node more, by what the tables hold of it
-pub start-more : (q c : ℕ) (kind start retiming l : List ℕ) (at : ℕ) (m o : List ℕ) (i e g k s r : ℕ)
-    → Laid l at (rows (λ v. startPlace q c v (getD kind v 0) (getD start v 0) (getD retiming v 0)) i) m e → Laid m e (startPlace q c i k s r) o g
-    → k ≡ getD kind i 0 → s ≡ getD start i 0 → r ≡ getD retiming i 0
-    → Laid l at (rows (λ v. startPlace q c v (getD kind v 0) (getD start v 0) (getD retiming v 0)) (i + 1)) o g
-start-more q c kind start retiming l at m o i e g k s r x y is-k is-s is-r = row-more l at _ i m o e g x (rw (is-k, is-s, is-r) at y)
+pub start-more : (q c : ℕ) (runs start retiming l : List ℕ) (at : ℕ) (m o : List ℕ) (i e g k s r : ℕ)
+    → Laid l at (rows (λ v. startPlace q c v (getD runs v 0) (getD start v 0) (getD retiming v 0)) i) m e → Laid m e (startPlace q c i k s r) o g
+    → k ≡ getD runs i 0 → s ≡ getD start i 0 → r ≡ getD retiming i 0
+    → Laid l at (rows (λ v. startPlace q c v (getD runs v 0) (getD start v 0) (getD retiming v 0)) (i + 1)) o g
+start-more q c runs start retiming l at m o i e g k s r x y is-k is-s is-r = row-more l at _ i m o e g x (rw (is-k, is-s, is-r) at y)
 
-module _ (f : Form) (steps nodes : ℕ) (kind start retiming : List ℕ) (t : Noted f steps nodes kind start retiming) (q c : ℕ) where
-  starts-same : rows (λ v. startPlace q c v (getD kind v 0) (getD start v 0) (getD retiming v 0)) nodes ≡ rows (λ v. startPlace q c v (nodeOf f v .class) (startOf f v) (retimingOf f v)) (f .nodes)
+module _ (f : Form) (steps nodes : ℕ) (runs start retiming : List ℕ) (t : Noted f steps nodes runs start retiming) (q c : ℕ) where
+  starts-same : rows (λ v. startPlace q c v (getD runs v 0) (getD start v 0) (getD retiming v 0)) nodes ≡ rows (λ v. startPlace q c v (nodeOf f v .class) (startOf f v) (retimingOf f v)) (f .nodes)
   starts-same =
       rows-same _ (λ v. startPlace q c v (nodeOf f v .class) (startOf f v) (retimingOf f v)) nodes
       (λ v l. rw (← (t .runs-on v l), ← (t .starts v l), ← (t .retimed v l)))
       ∙ ap (rows (λ v. startPlace q c v (nodeOf f v .class) (startOf f v) (retimingOf f v))) (sym (t .all-nodes))
 
-  held-same : (h : ℕ) → rows (λ v. heldPlace q c h v (getD kind v 0) (getD start v 0)) nodes ≡ rows (λ v. heldPlace q c h v (nodeOf f v .class) (startOf f v)) (f .nodes)
+  held-same : (h : ℕ) → rows (λ v. heldPlace q c h v (getD runs v 0) (getD start v 0)) nodes ≡ rows (λ v. heldPlace q c h v (nodeOf f v .class) (startOf f v)) (f .nodes)
   held-same h =
       rows-same _ (λ v. heldPlace q c h v (nodeOf f v .class) (startOf f v)) nodes (λ v l. rw (← (t .runs-on v l), ← (t .starts v l)))
       ∙ ap (rows (λ v. heldPlace q c h v (nodeOf f v .class) (startOf f v))) (sym (t .all-nodes))
 
-  busy-same : busyIn steps kind start c (hold (classOf f c)) q nodes ≡ busy (loopOf f) (pairOf f) c q
+  busy-same : busyIn steps runs start c (hold (classOf f c)) q nodes ≡ busy (loopOf f) (pairOf f) c q
   unfolding busyIn heldOn busy loopOf pairOf graphOf
   busy-same =
-      sum-same (λ v. heldOn steps (getD kind v 0) (getD start v 0) c (hold (classOf f c)) q) (λ v. heldOn (f .length) (nodeOf f v .class) (startOf f v) c (hold (classOf f c)) q) 0 nodes
+      sum-same (λ v. heldOn steps (getD runs v 0) (getD start v 0) c (hold (classOf f c)) q) (λ v. heldOn (f .length) (nodeOf f v .class) (startOf f v) c (hold (classOf f c)) q) 0 nodes
       (λ v a l. rw (t .is-length, ← (t .runs-on v (omega arith)), ← (t .starts v (omega arith))))
       ∙ ap (λ (n : ℕ). sumOf (λ v. heldOn (f .length) (nodeOf f v .class) (startOf f v) c (hold (classOf f c)) q) (span 0 n)) (sym (t .all-nodes))
 
   -- the bar, the nodes that start, those that hold, the free units
-  pub places-put : (k : Class) (held taken free : ℕ) → k ≡ classOf f c → held ≡ hold k → taken ≡ busyIn steps kind start c held q nodes → free ≡ k .units - taken
+  pub places-put : (k : Class) (held taken free : ℕ) → k ≡ classOf f c → held ≡ hold k → taken ≡ busyIn steps runs start c held q nodes → free ≡ k .units - taken
       → (l : List ℕ) (at : ℕ) (m o p r : List ℕ) (e g h n : ℕ) → Laid l at barWord m e
-      → Laid m e (rows (λ v. startPlace q c v (getD kind v 0) (getD start v 0) (getD retiming v 0)) nodes) o g
-      → Laid o g (rows (λ v. heldPlace q c held v (getD kind v 0) (getD start v 0)) nodes) p h
+      → Laid m e (rows (λ v. startPlace q c v (getD runs v 0) (getD start v 0) (getD retiming v 0)) nodes) o g
+      → Laid o g (rows (λ v. heldPlace q c held v (getD runs v 0) (getD start v 0)) nodes) p h
       → Laid p h (rows (λ i. freeWord) free) r n → Laid l at (placesText f q c) r n
   unfolding placesText
   places-put k held taken free is-k is-held is-taken is-free l at m o p r e g h n x y z w =
       let has : held ≡ hold (classOf f c) = is-held ∙ ap hold is-k in
-      let busy-is : taken ≡ busy (loopOf f) (pairOf f) c q = is-taken ∙ ap (λ (b : ℕ). busyIn steps kind start c b q nodes) has ∙ busy-same in
+      let busy-is : taken ≡ busy (loopOf f) (pairOf f) c q = is-taken ∙ ap (λ (b : ℕ). busyIn steps runs start c b q nodes) has ∙ busy-same in
       let free-is : free ≡ classOf f c .units - busy (loopOf f) (pairOf f) c q = is-free ∙ rw (is-k, busy-is) in
       both l at barWord _ m r e n x
       (both m e _ _ o r g n (rw starts-same at y) (both o g _ _ p r h n (rw (held-same (hold (classOf f c))) at (rw has at z)) (rw free-is at w)))

@@ -59,7 +59,7 @@ tabled-starts t h n =
 
 -- and what it holds
 module _ (f : Form) (t : Timetable) (is : t ≡ timesOf f) where
-  pub times-noted : Noted f (t .length) (t .nodes) (t .kind) (t .start) (t .retiming)
+  pub times-noted : Noted f (t .length) (t .nodes) (t .runs) (t .start) (t .retiming)
   unfolding timesOf
   times-noted = rw is (record {
     is-length = refl;

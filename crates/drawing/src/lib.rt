@@ -95,21 +95,21 @@ fn put_held(out: &mut [u8], at: usize, node: u32) -> usize
     put_byte(out, past, b']')
 }
 
-// Whether a node on class `kind` is of `class` and starts in the step.
-fn starts_in(step: u16, class: u8, kind: u8, start: u16) -> bool
-    ensures { λ b. ⌜ b ≡ (eqb kind class && eqb start step) ⌝ }
+// Whether a node on class `own` is of `class` and starts in the step.
+fn starts_in(step: u16, class: u8, own: u8, start: u16) -> bool
+    ensures { λ b. ⌜ b ≡ (eqb own class && eqb start step) ⌝ }
 {
-    if kind != class {
+    if own != class {
         return false;
     }
     start == step
 }
 
 // Whether it started before the step and holds its unit up to it.
-fn holds_in(step: u16, class: u8, hold: u8, kind: u8, start: u16) -> bool
-    ensures { λ b. ⌜ b ≡ (eqb kind class && (ltb start step && ltb step (start + hold))) ⌝ }
+fn holds_in(step: u16, class: u8, hold: u8, own: u8, start: u16) -> bool
+    ensures { λ b. ⌜ b ≡ (eqb own class && (ltb start step && ltb step (start + hold))) ⌝ }
 {
-    if kind != class {
+    if own != class {
         return false;
     }
     if step <= start {
@@ -125,14 +125,14 @@ fn put_starter(
     step: u16,
     class: u8,
     node: u32,
-    kind: u8,
+    own: u8,
     start: u16,
     retiming: u8,
 ) -> usize
     requires { ⌜ (at ≤ 1780000) × (node < 100) ⌝ }
-    ensures { λ r. ⌜ (r ≤ at + 6) × Laid (now (out .entry)) at (startPlace step class node kind start retiming) (now (out .exit)) r ⌝ }
+    ensures { λ r. ⌜ (r ≤ at + 6) × Laid (now (out .entry)) at (startPlace step class node own start retiming) (now (out .exit)) r ⌝ }
 {
-    if starts_in(step, class, kind, start) {
+    if starts_in(step, class, own, start) {
         return put_start(out, at, node, retiming);
     }
     at
@@ -146,13 +146,13 @@ fn put_holder(
     class: u8,
     hold: u8,
     node: u32,
-    kind: u8,
+    own: u8,
     start: u16,
 ) -> usize
     requires { ⌜ (at ≤ 1780000) × (node < 100) ⌝ }
-    ensures { λ r. ⌜ (r ≤ at + 6) × Laid (now (out .entry)) at (heldPlace step class hold node kind start) (now (out .exit)) r ⌝ }
+    ensures { λ r. ⌜ (r ≤ at + 6) × Laid (now (out .entry)) at (heldPlace step class hold node own start) (now (out .exit)) r ⌝ }
 {
-    if holds_in(step, class, hold, kind, start) {
+    if holds_in(step, class, hold, own, start) {
         return put_held(out, at, node);
     }
     at
@@ -165,12 +165,12 @@ fn put_starting<'a>(
     step: u16,
     class: u8,
     nodes: u8,
-    kind: &'a [u8; 64],
+    runs: &'a [u8; 64],
     start: &'a [u16; 64],
     retiming: &'a [u8; 64],
 ) -> usize
     requires { ⌜ (at ≤ 1770000) × (nodes ≤ 64) ⌝ }
-    ensures { λ r. ⌜ (r ≤ at + 384) × Laid (now (out .entry)) at (rows (λ v. startPlace step class v (getD (now (kind .entry)) v 0) (getD (now (start .entry)) v 0) (getD (now (retiming .entry)) v 0)) nodes) (now (out .exit)) r ⌝ }
+    ensures { λ r. ⌜ (r ≤ at + 384) × Laid (now (out .entry)) at (rows (λ v. startPlace step class v (getD (now (runs .entry)) v 0) (getD (now (start .entry)) v 0) (getD (now (retiming .entry)) v 0)) nodes) (now (out .exit)) r ⌝ }
 {
     let count = nodes as usize;
     let mut next = at;
@@ -182,7 +182,7 @@ fn put_starting<'a>(
             step,
             class,
             i as u32,
-            kind[i],
+            runs[i],
             start[i],
             retiming[i],
         );
@@ -199,17 +199,17 @@ fn put_holding<'a>(
     class: u8,
     hold: u8,
     nodes: u8,
-    kind: &'a [u8; 64],
+    runs: &'a [u8; 64],
     start: &'a [u16; 64],
 ) -> usize
     requires { ⌜ (at ≤ 1770000) × (nodes ≤ 64) ⌝ }
-    ensures { λ r. ⌜ (r ≤ at + 384) × Laid (now (out .entry)) at (rows (λ v. heldPlace step class hold v (getD (now (kind .entry)) v 0) (getD (now (start .entry)) v 0)) nodes) (now (out .exit)) r ⌝ }
+    ensures { λ r. ⌜ (r ≤ at + 384) × Laid (now (out .entry)) at (rows (λ v. heldPlace step class hold v (getD (now (runs .entry)) v 0) (getD (now (start .entry)) v 0)) nodes) (now (out .exit)) r ⌝ }
 {
     let count = nodes as usize;
     let mut next = at;
     let mut i: usize = 0;
     while i < count {
-        next = put_holder(out, next, step, class, hold, i as u32, kind[i], start[i]);
+        next = put_holder(out, next, step, class, hold, i as u32, runs[i], start[i]);
         i += 1;
     }
     next
@@ -248,18 +248,18 @@ fn put_places<'a>(
     class: Class,
     length: u16,
     nodes: u8,
-    kind: &'a [u8; 64],
+    runs: &'a [u8; 64],
     start: &'a [u16; 64],
     retiming: &'a [u8; 64],
 ) -> usize
     requires { ⌜ (at ≤ 1760000) × (nodes ≤ 64) × (1 ≤ step) × (step ≤ length) × StartsIn length (now start) nodes × (class .units ≤ 8) ⌝ }
-    ensures { λ r. ⌜ (r ≤ at + 818) × ((f : Form) → Noted f length nodes (now (kind .entry)) (now (start .entry)) (now (retiming .entry)) → class ≡ classOf f number → Laid (now (out .entry)) at (placesText f step number) (now (out .exit)) r) ⌝ }
+    ensures { λ r. ⌜ (r ≤ at + 818) × ((f : Form) → Noted f length nodes (now (runs .entry)) (now (start .entry)) (now (retiming .entry)) → class ≡ classOf f number → Laid (now (out .entry)) at (placesText f step number) (now (out .exit)) r) ⌝ }
 {
     let hold = hold_of(class);
-    let busy = busy_in(length, nodes, kind, start, number, hold, step);
+    let busy = busy_in(length, nodes, runs, start, number, hold, step);
     let first = put_word(out, at, b" |");
-    let held = put_starting(out, first, step, number, nodes, kind, start, retiming);
-    let free = put_holding(out, held, step, number, hold, nodes, kind, start);
+    let held = put_starting(out, first, step, number, nodes, runs, start, retiming);
+    let free = put_holding(out, held, step, number, hold, nodes, runs, start);
     put_free(out, free, free_of(class.units, busy))
 }
 
@@ -272,12 +272,12 @@ fn put_columns<'a>(
     class: [Class; 4],
     length: u16,
     nodes: u8,
-    kind: &'a [u8; 64],
+    runs: &'a [u8; 64],
     start: &'a [u16; 64],
     retiming: &'a [u8; 64],
 ) -> usize
     requires { ⌜ (at ≤ 1750000) × (nodes ≤ 64) × (1 ≤ step) × (step ≤ length) × StartsIn length (now start) nodes × Narrow classes class ⌝ }
-    ensures { λ r. ⌜ (r ≤ at + 3272) × ((f : Form) → Noted f length nodes (now (kind .entry)) (now (start .entry)) (now (retiming .entry)) → class ≡ f .class → Laid (now (out .entry)) at (rows (placesText f step) classes) (now (out .exit)) r) ⌝ }
+    ensures { λ r. ⌜ (r ≤ at + 3272) × ((f : Form) → Noted f length nodes (now (runs .entry)) (now (start .entry)) (now (retiming .entry)) → class ≡ f .class → Laid (now (out .entry)) at (rows (placesText f step) classes) (now (out .exit)) r) ⌝ }
 {
     let mut next = at;
     let mut c: u8 = 0;
@@ -291,7 +291,7 @@ fn put_columns<'a>(
             row,
             length,
             nodes,
-            kind,
+            runs,
             start,
             retiming,
         );
@@ -309,12 +309,12 @@ fn put_row<'a>(
     class: [Class; 4],
     length: u16,
     nodes: u8,
-    kind: &'a [u8; 64],
+    runs: &'a [u8; 64],
     start: &'a [u16; 64],
     retiming: &'a [u8; 64],
 ) -> usize
     requires { ⌜ (at ≤ 1740000) × (step < 1000) × (nodes ≤ 64) × (1 ≤ step) × (step ≤ length) × StartsIn length (now start) nodes × Narrow classes class ⌝ }
-    ensures { λ r. ⌜ (r ≤ at + 3279) × ((f : Form) → Noted f length nodes (now (kind .entry)) (now (start .entry)) (now (retiming .entry)) → class ≡ f .class → classes ≡ f .classes → Laid (now (out .entry)) at (rowText f step) (now (out .exit)) r) ⌝ }
+    ensures { λ r. ⌜ (r ≤ at + 3279) × ((f : Form) → Noted f length nodes (now (runs .entry)) (now (start .entry)) (now (retiming .entry)) → class ≡ f .class → classes ≡ f .classes → Laid (now (out .entry)) at (rowText f step) (now (out .exit)) r) ⌝ }
 {
     let first = put_right(out, at, step as u32);
     let end = put_columns(
@@ -325,7 +325,7 @@ fn put_row<'a>(
         class,
         length,
         nodes,
-        kind,
+        runs,
         start,
         retiming,
     );
@@ -350,7 +350,7 @@ fn put_rows(out: &mut [u8], at: usize, times: Timetable) -> usize
             class,
             length,
             times.nodes,
-            &times.kind,
+            &times.runs,
             &times.start,
             &times.retiming,
         );

@@ -99,12 +99,12 @@ module _ (g : Loop) where
     }
 
   -- what the code works out of class c is its part
-  pub part-is : (p : Pair) (t : Timetable) → Timed g p t → (c on part′ : ℕ) → on ≡ howMany (t .kind) c (t .nodes)
+  pub part-is : (p : Pair) (t : Timetable) → Timed g p t → (c on part′ : ℕ) → on ≡ howMany (t .runs) c (t .nodes)
       → part′ ≡ (on * hold (getD (t .class) c noClass) + (getD (t .class) c noClass .units - 1)) / getD (t .class) c noClass .units → part′ ≡ unitsPart g c
   unfolding unitsPart nodesOn howMany
   part-is p t timed c on part′ counted is =
       let same : on ≡ nodesOn g c =
-      counted ∙ count-same (λ v. eqb (getD (t .kind) v 0) c) (λ v. eqb (runsOn g v) c) (t .nodes) (λ v l. ap (λ (k : ℕ). eqb k c) (sym (timed .runs-on v l)))
+      counted ∙ count-same (λ v. eqb (getD (t .runs) v 0) c) (λ v. eqb (runsOn g v) c) (t .nodes) (λ v l. ap (λ (k : ℕ). eqb k c) (sym (timed .runs-on v l)))
       ∙ ap (λ (n : ℕ). count (λ v. eqb (runsOn g v) c) (span 0 n)) (sym (timed .all-nodes)) in
       is ∙ rw (same, timed .is-class c)
 

@@ -57,13 +57,13 @@ fn larger(a: u16, b: u16) -> u16
 }
 
 // How many nodes run on a class.
-fn nodes_on(nodes: u8, kind: &[u8; 64], class: u8) -> u8
+fn nodes_on(nodes: u8, runs: &[u8; 64], class: u8) -> u8
     requires { ⌜ nodes ≤ 64 ⌝ }
-    ensures { λ r. ⌜ (r ≡ howMany (now (kind .entry)) class nodes) × (r ≤ 64) ⌝ }
+    ensures { λ r. ⌜ (r ≡ howMany (now (runs .entry)) class nodes) × (r ≤ 64) ⌝ }
 {
     let mut on: u8 = 0;
     for v in 0..nodes {
-        if kind[v as usize] == class {
+        if runs[v as usize] == class {
             on += 1;
         }
     }
@@ -101,7 +101,7 @@ fn busiest_class(times: Timetable) -> Busiest
     let mut number: u8 = 0;
     for c in 0..times.classes {
         let class = times.class[c as usize];
-        let here = units_part(class, nodes_on(times.nodes, &times.kind, c));
+        let here = units_part(class, nodes_on(times.nodes, &times.runs, c));
         if part < here {
             part = here;
             number = c;

@@ -82,21 +82,21 @@ module _ (g : Loop) (p : Pair) where
 
 -- the timetable's count is the loop's
 module _ (g : Loop) (p : Pair) (t : Timetable) (timed : Timed g p t) where
-  busy-same : (c q : ℕ) → busyIn (t .length) (t .kind) (t .start) c (hold (getD (t .class) c noClass)) q (t .nodes) ≡ busy g p c q
+  busy-same : (c q : ℕ) → busyIn (t .length) (t .runs) (t .start) c (hold (getD (t .class) c noClass)) q (t .nodes) ≡ busy g p c q
   unfolding busyIn heldOn busy
   busy-same c q =
-      sum-same (λ v. heldOn (t .length) (getD (t .kind) v 0) (getD (t .start) v 0) c (hold (getD (t .class) c noClass)) q)
+      sum-same (λ v. heldOn (t .length) (getD (t .runs) v 0) (getD (t .start) v 0) c (hold (getD (t .class) c noClass)) q)
       (λ v. heldOn (p .length) (runsOn g v) (p .start v) c (hold (g .class c)) q) 0 (t .nodes)
       (λ v a b. rw (timed .is-length, timed .runs-on v (omega arith), timed .starts v (omega arith), timed .is-class c))
       ∙ ap (λ (n : ℕ). sumOf (λ v. heldOn (p .length) (runsOn g v) (p .start v) c (hold (g .class c)) q) (span 0 n)) (sym (timed .all-nodes))
 
-  lower-is : (q c spot : ℕ) → lowerSpot (t .length) (t .kind) (t .start) (t .nodes) (getD (t .class) c noClass) c q spot ≡ pick (ltb (spotOf q c) spot && over g p q c) (spotOf q c) spot
+  lower-is : (q c spot : ℕ) → lowerSpot (t .length) (t .runs) (t .start) (t .nodes) (getD (t .class) c noClass) c q spot ≡ pick (ltb (spotOf q c) spot && over g p q c) (spotOf q c) spot
   unfolding lowerSpot over
   lower-is q c spot = rw (busy-same c q, timed .is-class c)
 
   -- one step of the body and one class more
   module _ (Seen : ℕ → ℕ → Type 0) (q c spot next : ℕ) (s : Lowest g p Seen spot) (from : 1 ≤ q) (to : q ≤ p .length) (class : c < g .classes)
-      (is : next ≡ lowerSpot (t .length) (t .kind) (t .start) (t .nodes) (getD (t .class) c noClass) c q spot) where
+      (is : next ≡ lowerSpot (t .length) (t .runs) (t .start) (t .nodes) (getD (t .class) c noClass) c q spot) where
     pub lowest-more : Lowest g p (λ k d. Seen k d ⊎ ((k ≡ q) × (d ≡ c))) next
     unfolding pick
     lowest-more = go (ltb (spotOf q c) spot) (over g p q c) refl refl (is ∙ lower-is q c spot)
@@ -117,12 +117,12 @@ module _ (g : Loop) (p : Pair) (t : Timetable) (timed : Timed g p t) where
 
   -- the start of one node more
   pub lowest-node : Seated g p → (v spot next : ℕ) → v < t .nodes → Lowest g p (StartOf g p v) spot
-      → next ≡ lowerSpot (t .length) (t .kind) (t .start) (t .nodes) (getD (t .class) (getD (t .kind) v 0) noClass) (getD (t .kind) v 0) (getD (t .start) v 0) spot
+      → next ≡ lowerSpot (t .length) (t .runs) (t .start) (t .nodes) (getD (t .class) (getD (t .runs) v 0) noClass) (getD (t .runs) v 0) (getD (t .start) v 0) spot
       → Lowest g p (StartOf g p (v + 1)) next
   lowest-node seated v spot next l s is =
       let inside : v < g .graph .nodes = omega (arith, timed .all-nodes) in
       let at = seated .starts v inside in
-      let here : next ≡ lowerSpot (t .length) (t .kind) (t .start) (t .nodes) (getD (t .class) (runsOn g v) noClass) (runsOn g v) (p .start v) spot = is ∙ rw (timed .runs-on v l, timed .starts v l) in
+      let here : next ≡ lowerSpot (t .length) (t .runs) (t .start) (t .nodes) (getD (t .class) (runsOn g v) noClass) (runsOn g v) (p .start v) spot = is ∙ rw (timed .runs-on v l, timed .starts v l) in
       lowest-fewer g p _ _ next (seen v) (lowest-more (StartOf g p v) (p .start v) (runsOn g v) spot next s (at .0) (at .1) (seated .class v inside) here)
     where
       seen : (v q c : ℕ) → StartOf g p (v + 1) q c → StartOf g p v q c ⊎ ((q ≡ p .start v) × (c ≡ runsOn g v))

@@ -78,14 +78,14 @@ fn held_in(length: u16, start: u16, hold: u8, step: u16) -> u16
     0
 }
 
-// The same of an operation on class `kind`, which holds no unit of another class.
-fn held_on(length: u16, kind: u8, start: u16, class: u8, hold: u8, step: u16) -> u16
+// The same of an operation on class `own`, which holds no unit of another class.
+fn held_on(length: u16, own: u8, start: u16, class: u8, hold: u8, step: u16) -> u16
     requires { ⌜ (1 ≤ start) × (start ≤ length) × (1 ≤ step) × (step ≤ length) ⌝ }
-    ensures { λ r. ⌜ (r ≡ heldOn length kind start class hold step) × (r ≤ 255) ⌝ }
+    ensures { λ r. ⌜ (r ≡ heldOn length own start class hold step) × (r ≤ 255) ⌝ }
 {
     // before the test, so that the loop above takes nodes several at a time
     let held = held_in(length, start, hold, step);
-    if kind != class {
+    if own != class {
         return 0;
     }
     held
@@ -95,19 +95,19 @@ fn held_on(length: u16, kind: u8, start: u16, class: u8, hold: u8, step: u16) ->
 pub fn busy_in<'a>(
     length: u16,
     nodes: u8,
-    kind: &'a [u8; 64],
+    runs: &'a [u8; 64],
     start: &'a [u16; 64],
     class: u8,
     hold: u8,
     step: u16,
 ) -> u16
     requires { ⌜ (nodes ≤ 64) × (1 ≤ step) × (step ≤ length) × StartsIn length (now start) nodes ⌝ }
-    ensures { λ r. ⌜ r ≡ busyIn length (now (kind .entry)) (now (start .entry)) class hold step nodes ⌝ }
+    ensures { λ r. ⌜ r ≡ busyIn length (now (runs .entry)) (now (start .entry)) class hold step nodes ⌝ }
 {
     let mut busy: u16 = 0;
     for v in 0..nodes {
         let i = v as usize;
-        busy += held_on(length, kind[i], start[i], class, hold, step);
+        busy += held_on(length, runs[i], start[i], class, hold, step);
     }
     busy
 }
@@ -123,7 +123,7 @@ fn spot(step: u16, class: u8) -> u32
 fn lower_spot<'a>(
     length: u16,
     nodes: u8,
-    kind: &'a [u8; 64],
+    runs: &'a [u8; 64],
     start: &'a [u16; 64],
     class: Class,
     number: u8,
@@ -131,13 +131,13 @@ fn lower_spot<'a>(
     lowest: u32,
 ) -> u32
     requires { ⌜ (nodes ≤ 64) × (1 ≤ step) × (step ≤ length) × StartsIn length (now start) nodes ⌝ }
-    ensures { λ r. ⌜ r ≡ lowerSpot length (now (kind .entry)) (now (start .entry)) nodes class number step lowest ⌝ }
+    ensures { λ r. ⌜ r ≡ lowerSpot length (now (runs .entry)) (now (start .entry)) nodes class number step lowest ⌝ }
 {
     let here = spot(step, number);
     if lowest <= here {
         return lowest;
     }
-    let busy = busy_in(length, nodes, kind, start, number, hold_of(class), step);
+    let busy = busy_in(length, nodes, runs, start, number, hold_of(class), step);
     if busy <= class.units as u16 {
         return lowest;
     }
@@ -157,7 +157,7 @@ fn first_spot(times: Timetable, past: u32) -> u32
         lowest = lower_spot(
             times.length,
             times.nodes,
-            &times.kind,
+            &times.runs,
             &times.start,
             class,
             c,
@@ -178,13 +178,13 @@ pub fn crowded(times: Timetable) -> Refusal
     let mut lowest = first_spot(times, past);
     for v in 0..times.nodes {
         let i = v as usize;
-        let number = times.kind[i];
+        let number = times.runs[i];
         let step = times.start[i];
         let class = times.class[number as usize];
         lowest = lower_spot(
             times.length,
             times.nodes,
-            &times.kind,
+            &times.runs,
             &times.start,
             class,
             number,

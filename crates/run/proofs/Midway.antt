@@ -162,7 +162,7 @@ module _ (f : Form) (k : ℕ) (starts : List ℕ) (j : ℕ) where
                   boarded = boarded-form f well;
                   node-in = node-in;
                   is-one = omega arith;
-                  is-kind = refl;
+                  on-class = refl;
                   is-class = refl;
                   goes = iteration-here (loopOf f) (pairOf f) starts k j v (from .0) (omega arith) ∙ rw (← is-depth);
                   step = rw is-depth (step-here (loopOf f) (pairOf f) starts k j v (from .0) (omega arith) (omega (arith, is-depth)));

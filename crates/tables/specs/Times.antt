@@ -20,7 +20,7 @@ timesOf f = record {
   nodes = f .nodes;
   length = f .length;
   class = f .class;
-  kind = filled 64 (λ v. nodeOf f v .class) (f .nodes);
+  runs = filled 64 (λ v. nodeOf f v .class) (f .nodes);
   latency = filled 64 (latencyOf f) (f .nodes);
   start = filled 64 (startOf f) (f .nodes);
   retiming = f .retiming;
@@ -28,7 +28,7 @@ timesOf f = record {
 
 -- tables that are filled for all nodes are those of the timetable
 pub times-are : (f : Form) (v : ℕ) (ks ts ss : List ℕ) → v ≡ f .nodes → ks ≡ filled 64 (λ u. nodeOf f u .class) v → ts ≡ filled 64 (latencyOf f) v → ss ≡ filled 64 (startOf f) v
-    → record { classes = f .classes; nodes = f .nodes; length = f .length; class = f .class; kind = ks; latency = ts; start = ss; retiming = f .retiming } ≡ timesOf f
+    → record { classes = f .classes; nodes = f .nodes; length = f .length; class = f .class; runs = ks; latency = ts; start = ss; retiming = f .retiming } ≡ timesOf f
 unfolding timesOf
 times-are f v ks ts ss e k t s = rw (k, t, s, e)
 
@@ -37,7 +37,7 @@ pub record SoundTimes (t : Timetable) : Type 0 where
   pub few : t .classes ≤ 4
   pub class : (c : ℕ) → c < t .classes → GoodClass (getD (t .class) c noClass)
   pub most : t .nodes ≤ 64
-  pub class-in : (v : ℕ) → v < t .nodes → getD (t .kind) v 0 < 4
+  pub class-in : (v : ℕ) → v < t .nodes → getD (t .runs) v 0 < 4
 
 -- the timetable holds the loop's nodes and the pair
 pub record Timed (g : Loop) (p : Pair) (t : Timetable) : Type 0 where
@@ -45,7 +45,7 @@ pub record Timed (g : Loop) (p : Pair) (t : Timetable) : Type 0 where
   pub all-nodes : g .graph .nodes ≡ t .nodes
   pub is-length : p .length ≡ t .length
   pub is-class : (c : ℕ) → g .class c ≡ getD (t .class) c noClass
-  pub runs-on : (v : ℕ) → v < t .nodes → runsOn g v ≡ getD (t .kind) v 0
+  pub runs-on : (v : ℕ) → v < t .nodes → runsOn g v ≡ getD (t .runs) v 0
   pub takes : (v : ℕ) → v < t .nodes → latency g v ≡ getD (t .latency) v 0
   pub starts : (v : ℕ) → v < t .nodes → p .start v ≡ getD (t .start) v 0
   pub retimed : (v : ℕ) → p .retiming v ≡ getD (t .retiming) v 0

@@ -13,7 +13,7 @@ pub struct Timetable {
     pub nodes: u8,
     pub length: u16,
     pub class: [Class; 4],
-    pub kind: [u8; 64],
+    pub runs: [u8; 64],
     pub latency: [u8; 64],
     pub start: [u16; 64],
     pub retiming: [u8; 64],
@@ -29,7 +29,7 @@ pub fn times_of(form: Form) -> Timetable
     let node = form.node;
     let begins = form.start;
     let retiming = form.retiming;
-    let mut kind = [0u8; 64];
+    let mut runs = [0u8; 64];
     let mut latency = [0u8; 64];
     let mut start = [0u16; 64];
     let nodes = form.nodes as usize;
@@ -37,7 +37,7 @@ pub fn times_of(form: Form) -> Timetable
     while v < nodes {
         let number = node[v].class;
         let row = class[number as usize];
-        kind[v] = number;
+        runs[v] = number;
         latency[v] = row.latency;
         start[v] = begins[v].0;
         v += 1;
@@ -47,7 +47,7 @@ pub fn times_of(form: Form) -> Timetable
         nodes: form.nodes,
         length: form.length,
         class,
-        kind,
+        runs,
         latency,
         start,
         retiming,

@@ -17,10 +17,10 @@ use Rattle.drawing.proofs.put_columns.Statement.{statement}
 use Rattle.drawing.proofs.put_columns.Tie as tie
 
 abbrev Inv-loop : tie.InvT-loop
-Inv-loop out₀ at step classes long nodes kind start retiming class next₀ c₀ out next c = (c ≤ classes) × (next ≤ at + 818 * c) × (length out ≡ length out₀) × ((f : Form) → Noted f long nodes kind start retiming → class ≡ f .class → Laid out₀ at (rows (placesText f step) c) out next)
+Inv-loop out₀ at step classes long nodes runs start retiming class next₀ c₀ out next c = (c ≤ classes) × (next ≤ at + 818 * c) × (length out ≡ length out₀) × ((f : Form) → Noted f long nodes runs start retiming → class ≡ f .class → Laid out₀ at (rows (placesText f step) c) out next)
 
 abbrev μ-loop : tie.MeasureT-loop
-μ-loop out₀ at step classes long nodes kind start retiming class next₀ c₀ out next c = classes - c
+μ-loop out₀ at step classes long nodes runs start retiming class next₀ c₀ out next c = classes - c
 
 loop-holds : tie.Need-loop-holds Inv-loop μ-loop
 unfolding rows

@@ -12,10 +12,10 @@ use Rattle.drawing.proofs.put_holding.Statement.{statement}
 use Rattle.drawing.proofs.put_holding.Tie as tie
 
 abbrev Inv-loop : tie.InvT-loop
-Inv-loop out₀ at step class hold nodes kind start count next₀ i₀ out next i = (i ≤ count) × (next ≤ at + 6 * i) × Laid out₀ at (rows (λ v. heldPlace step class hold v (getD kind v 0) (getD start v 0)) i) out next
+Inv-loop out₀ at step class hold nodes runs start count next₀ i₀ out next i = (i ≤ count) × (next ≤ at + 6 * i) × Laid out₀ at (rows (λ v. heldPlace step class hold v (getD runs v 0) (getD start v 0)) i) out next
 
 abbrev μ-loop : tie.MeasureT-loop
-μ-loop out₀ at step class hold nodes kind start count next₀ i₀ out next i = count - i
+μ-loop out₀ at step class hold nodes runs start count next₀ i₀ out next i = count - i
 
 loop-holds : tie.Need-loop-holds Inv-loop μ-loop
 unfolding rows

@@ -12,10 +12,10 @@ use Rattle.drawing.proofs.put_starting.Statement.{statement}
 use Rattle.drawing.proofs.put_starting.Tie as tie
 
 abbrev Inv-loop : tie.InvT-loop
-Inv-loop out₀ at step class nodes kind start retiming count next₀ i₀ out next i = (i ≤ count) × (next ≤ at + 6 * i) × Laid out₀ at (rows (λ v. startPlace step class v (getD kind v 0) (getD start v 0) (getD retiming v 0)) i) out next
+Inv-loop out₀ at step class nodes runs start retiming count next₀ i₀ out next i = (i ≤ count) × (next ≤ at + 6 * i) × Laid out₀ at (rows (λ v. startPlace step class v (getD runs v 0) (getD start v 0) (getD retiming v 0)) i) out next
 
 abbrev μ-loop : tie.MeasureT-loop
-μ-loop out₀ at step class nodes kind start retiming count next₀ i₀ out next i = count - i
+μ-loop out₀ at step class nodes runs start retiming count next₀ i₀ out next i = count - i
 
 loop-holds : tie.Need-loop-holds Inv-loop μ-loop
 unfolding rows
@@ -25,7 +25,7 @@ loop-again : tie.Need-loop-again Inv-loop μ-loop
 loop-again c =
     let l = c .before .before .before .before .before .before .before .before in
     let a = l .before .before .args in
-    (search tests, search tests, start-more _ _ (a .kind .now) (a .start .now) (a .retiming .now) _ _ _ _ _ _ _ _ _ _ (l .loop .inv .2) (c .before .before .put-starter .ensures .1) (omega arith) (omega arith) (omega arith))
+    (search tests, search tests, start-more _ _ (a .runs .now) (a .start .now) (a .retiming .now) _ _ _ _ _ _ _ _ _ _ (l .loop .inv .2) (c .before .before .put-starter .ensures .1) (omega arith) (omega arith) (omega arith))
 
 same-length : tie.Need-same-length Inv-loop μ-loop
 same-length c = same-long _ _ _ _ _ (c .before .loop .inv .2)

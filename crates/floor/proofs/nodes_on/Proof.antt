@@ -11,21 +11,21 @@ use Rattle.floor.proofs.nodes_on.Statement.{statement}
 use Rattle.floor.proofs.nodes_on.Tie as tie
 
 abbrev Inv-loop : tie.InvT-loop
-Inv-loop nodes kind class on₀ v₀ on v = (v ≤ nodes) × (on ≤ v) × (on ≡ howMany kind class v)
+Inv-loop nodes runs class on₀ v₀ on v = (v ≤ nodes) × (on ≤ v) × (on ≡ howMany runs class v)
 
 abbrev μ-loop : tie.MeasureT-loop
-μ-loop nodes kind class on₀ v₀ on v = nodes - v
+μ-loop nodes runs class on₀ v₀ on v = nodes - v
 
 loop-holds : tie.Need-loop-holds Inv-loop μ-loop
-loop-holds c = omega (arith, many-none (c .args .kind .now) (c .args .class))
+loop-holds c = omega (arith, many-none (c .args .runs .now) (c .args .class))
 
 loop-again : tie.Need-loop-again Inv-loop μ-loop
 loop-again c =
     let l = c .before .before .before in
     let a = l .before .args in
     ⊎-elim
-    (λ w. omega (arith, many-here (a .kind .now) (a .class) (l .loop .v) (w .0 .taken)))
-    (λ w. omega (arith, many-past (a .kind .now) (a .class) (l .loop .v) (w .0 .left)))
+    (λ w. omega (arith, many-here (a .runs .now) (a .class) (l .loop .v) (w .0 .taken)))
+    (λ w. omega (arith, many-past (a .runs .now) (a .class) (l .loop .v) (w .0 .left)))
     (c .if1 .came)
 
 returns : tie.Need-returns Inv-loop μ-loop

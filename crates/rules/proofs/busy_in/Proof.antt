@@ -10,15 +10,15 @@ use Rattle.rules.proofs.busy_in.Statement.{statement}
 use Rattle.rules.proofs.busy_in.Tie as tie
 
 abbrev Inv-loop : tie.InvT-loop
-Inv-loop length nodes kind start class hold step busy₀ v₀ busy v = (v ≤ nodes) × (busy ≤ 255 * v) × (busy ≡ busyIn length kind start class hold step v)
+Inv-loop length nodes runs start class hold step busy₀ v₀ busy v = (v ≤ nodes) × (busy ≤ 255 * v) × (busy ≡ busyIn length runs start class hold step v)
 
 abbrev μ-loop : tie.MeasureT-loop
-μ-loop length nodes kind start class hold step busy₀ v₀ busy v = nodes - v
+μ-loop length nodes runs start class hold step busy₀ v₀ busy v = nodes - v
 
 loop-holds : tie.Need-loop-holds Inv-loop μ-loop
 loop-holds c =
     let a = c .args in
-    omega (arith, busy-none (a .length) (a .kind .now) (a .start .now) (a .class) (a .hold) (a .step))
+    omega (arith, busy-none (a .length) (a .runs .now) (a .start .now) (a .class) (a .hold) (a .step))
 
 held-on-requires : tie.Need-held-on-requires Inv-loop μ-loop
 held-on-requires c κs =
@@ -31,7 +31,7 @@ loop-again : tie.Need-loop-again Inv-loop μ-loop
 loop-again c =
     let l = c .before .before .before .before in
     let a = l .before .args in
-    omega (arith, busy-more (a .length) (a .kind .now) (a .start .now) (a .class) (a .hold) (a .step) (l .loop .v) _ (c .held-on .ensures .0), c .held-on .ensures .1)
+    omega (arith, busy-more (a .length) (a .runs .now) (a .start .now) (a .class) (a .hold) (a .step) (l .loop .v) _ (c .held-on .ensures .0), c .held-on .ensures .1)
 
 returns : tie.Need-returns Inv-loop μ-loop
 returns c =

@@ -27,17 +27,17 @@ loop-holds c = (
   λ g p timed seated. lowest-fewer g p _ _ _ (λ q d w. ⊎-elim (λ first. first) (λ u. absurd (omega (arith, u .1))) w) (c .first-spot .ensures g p timed seated),
 )
 
-kind-below : (c : tie.In-loop Inv-loop μ-loop) → getD (c .before .before .before .before .args .t1 .kind) (c .before .loop .v) 0 < 4
-kind-below c = c .before .before .before .before .pre .0 .class-in (c .before .loop .v) (c .loop-test .taken)
+class-below : (c : tie.In-loop Inv-loop μ-loop) → getD (c .before .before .before .before .args .t1 .runs) (c .before .loop .v) 0 < 4
+class-below c = c .before .before .before .before .pre .0 .class-in (c .before .loop .v) (c .loop-test .taken)
 
 cast-class : tie.Need-cast-class Inv-loop μ-loop
-cast-class c = omega (arith, kind-below (c .before .before))
+cast-class c = omega (arith, class-below (c .before .before))
 
 mul-class : tie.Need-mul-class Inv-loop μ-loop
-mul-class c = omega (arith, kind-below (c .before .before))
+mul-class c = omega (arith, class-below (c .before .before))
 
 element-copy-out-class : tie.Need-element-copy-out-class Inv-loop μ-loop
-element-copy-out-class c = kind-below (c .before .before)
+element-copy-out-class c = class-below (c .before .before)
 
 lower-spot-requires : tie.Need-lower-spot-requires Inv-loop μ-loop
 lower-spot-requires c κs =

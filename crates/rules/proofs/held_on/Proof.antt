@@ -12,13 +12,13 @@ use Rattle.rules.proofs.held_on.Tie as tie
 
 returns : tie.Need-returns
 unfolding heldOn
-returns c = let a = c .before .before .args in (sym (pick-false (eqb (a .kind) (a .class)) _ 0 (ne-eqb (a .kind) (a .class) (search needs))), omega arith)
+returns c = let a = c .before .before .args in (sym (pick-false (eqb (a .own) (a .class)) _ 0 (ne-eqb (a .own) (a .class) (search needs))), omega arith)
 
 returns-2 : tie.Need-returns-2
 unfolding heldOn
 returns-2 c =
     let a = c .before .before .args in
-    (c .before .held-in .ensures .0 ∙ sym (pick-true (eqb (a .kind) (a .class)) _ 0 (eq-eqb (a .kind) (a .class) (search needs))), c .before .held-in .ensures .1)
+    (c .before .held-in .ensures .0 ∙ sym (pick-true (eqb (a .own) (a .class)) _ 0 (eq-eqb (a .own) (a .class) (search needs))), c .before .held-in .ensures .1)
 
 pub held-on-spec : {M : Type 1} → statement M
 held-on-spec = tie.close (tie.spec (λ c κs. search needs) returns returns-2)

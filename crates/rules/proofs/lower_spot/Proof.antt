@@ -17,8 +17,8 @@ returns-2 c =
     let h = b .before in
     let s = h .before .before in
     let a = s .before .args in
-    lower-fits (a .length) (a .kind .now) (a .start .now) (a .nodes) (a .class) (a .number) (a .step) (a .lowest) _ _ (s .spot .ensures .0)
-    (b .busy-in .ensures ∙ ap (λ x. busyIn (a .length) (a .kind .now) (a .start .now) (a .number) x (a .step) (a .nodes)) (h .hold-of .ensures)) (omega arith)
+    lower-fits (a .length) (a .runs .now) (a .start .now) (a .nodes) (a .class) (a .number) (a .step) (a .lowest) _ _ (s .spot .ensures .0)
+    (b .busy-in .ensures ∙ ap (λ x. busyIn (a .length) (a .runs .now) (a .start .now) (a .number) x (a .step) (a .nodes)) (h .hold-of .ensures)) (omega arith)
 
 returns-3 : tie.Need-returns-3
 returns-3 c =
@@ -26,8 +26,8 @@ returns-3 c =
     let h = b .before in
     let s = h .before .before in
     let a = s .before .args in
-    lower-full (a .length) (a .kind .now) (a .start .now) (a .nodes) (a .class) (a .number) (a .step) (a .lowest) _ _ (s .spot .ensures .0)
-    (b .busy-in .ensures ∙ ap (λ x. busyIn (a .length) (a .kind .now) (a .start .now) (a .number) x (a .step) (a .nodes)) (h .hold-of .ensures)) (omega arith) (omega arith)
+    lower-full (a .length) (a .runs .now) (a .start .now) (a .nodes) (a .class) (a .number) (a .step) (a .lowest) _ _ (s .spot .ensures .0)
+    (b .busy-in .ensures ∙ ap (λ x. busyIn (a .length) (a .runs .now) (a .start .now) (a .number) x (a .step) (a .nodes)) (h .hold-of .ensures)) (omega arith) (omega arith)
 
 pub lower-spot-spec : {M : Type 1} → statement M
 lower-spot-spec = tie.close (tie.spec (λ c κs. search needs) returns (λ c κs. search needs) (λ c κs. search needs) (λ c. search needs) returns-2 returns-3)
