@@ -1,6 +1,6 @@
--- Steps that hold more of a class than its units: the lowest of them is step 1, into which an operation may run over the end, or one in which a node of the class starts; and the lowest is what the unit rule refuses.
+-- Steps that hold more of a class than its units: the lowest of them is one that a node of the class enters, by starting there or by running over the end into step 1; and the lowest is what the unit rule refuses.
 -- Assumes nothing.
-use mathlib.Core.Path.{_≡_, refl, sym, _∙_, ap}
+use mathlib.Core.Path.{_≡_, refl, sym, _∙_, ap, subst}
 use mathlib.Core.Bool.{Bool, true, false, _&&_, true≢false}
 use mathlib.Core.Logic.{_≢_, _⊎_, inl, inr, ⊎-elim}
 use Prim.Native.Nat.{ℕ, zero, suc, _+_, _-_, _*_, _/_, _%_, _≤_, _<_}
@@ -14,11 +14,13 @@ use Rattle.lists.specs.Count.{some-or-none}
 use Rattle.lists.specs.First.{first-is}
 use Rattle.lists.specs.Pick.{pick, pick-true, pick-false}
 use Rattle.lists.specs.Quotient.{divided}
-use Rattle.lists.specs.Sums.{bit, sum-le}
+use Rattle.lists.specs.Span.{span}
+use Rattle.lists.specs.Fold.{sumOf}
+use Rattle.lists.specs.Sums.{bit, sum-le, sum-zero}
 use Rattle.answer.specs.declared.Refusal.the-variants.{None, Units}
 use Rattle.form.specs.Hold.{hold}
 use Rattle.legal.specs.Loop.{Loop, Pair, runsOn}
-use Rattle.legal.specs.Held.{lands, held, held-none, held-more}
+use Rattle.legal.specs.Held.{lands, held, held-none, held-more, held-plain}
 use Rattle.legal.specs.Legal.{busy}
 use Rattle.legal.specs.Shape.{Starting}
 use Rattle.legal.specs.Judging.{over, overClass, overStep, unitsOf}
@@ -64,6 +66,50 @@ module _ (L s : ℕ) (from : 1 ≤ s) (to : s ≤ L) where
   unfolding pick
   held-next q one l ne h =
       omega (arith, held-more L s h (q + 1), next-is q one l h, ap {B = ℕ} (λ b. bit b) (ne-eqb s (q + 1) ne))
+
+-- a sum that is not 0 has a term that is not
+some-term : (f : ℕ → ℕ) (n : ℕ) → 0 < sumOf f (span 0 n) → (v : ℕ) × (v < n) × (0 < f v)
+some-term f n h =
+    ⊎-elim
+    (λ t. (t .0, t .1, ltb-true 0 (f (t .0)) (t .2)))
+    (λ none. absurd (omega (arith, sum-le f (λ v. 0) 0 n (λ v a l. ltb-false 0 (f v) (none v (omega arith))), sum-zero (span 0 n))))
+    (some-or-none (λ v. ltb 0 (f v)) n)
+
+module _ (g : Loop) (p : Pair) where
+  -- node u starts in step q, or runs over the end into step 1
+  abbrev pub Enters : ℕ → ℕ → Type 0
+  Enters u q = (p .start u ≡ q) ⊎ ((q ≡ 1) × (p .length + 1 < p .start u + hold (g .class (runsOn g u))))
+
+  -- a node below v enters step q, on class c
+  abbrev pub Entered : ℕ → ℕ → ℕ → Type 0
+  Entered v q c = (u : ℕ) × (u < v) × (runsOn g u ≡ c) × Enters u q
+
+module _ (g : Loop) (p : Pair) (b : Starting g p) where
+  -- what is held in step 1 starts there or runs over the end
+  held-enters : (v : ℕ) → v < g .graph .nodes → 0 < held (p .length) (p .start v) (hold (g .class (runsOn g v))) 1 → Enters g p v 1
+  unfolding pick
+  held-enters v l h =
+      let s = p .start v in
+      let k = hold (g .class (runsOn g v)) in
+      elim (ℕ-discrete s 1) [
+        | yes e ↦ inl e
+        | no e ↦ elim (decLe (s + k) (p .length + 1)) [
+          | yes m ↦ absurd (omega (arith, held-plain (p .length) s (b v l .0) k 1 m, ap {B = ℕ} (λ t. bit (t && ltb 1 (s + k))) (lt-leb s 1 (omega (arith, b v l .0)))))
+          | no m ↦ inr (refl, omega arith)
+        ]
+      ]
+
+  pub first-entered : (c : ℕ) → over g p 1 c ≡ true → Entered g p (g .graph .nodes) 1 c
+  unfolding over busy pick
+  first-entered c full =
+      let t = some-term (λ v. pick (eqb (runsOn g v) c) (held (p .length) (p .start v) (hold (g .class c)) 1) 0) (g .graph .nodes) (omega (arith, ltb-true (g .class c .units) (busy g p c 1) full)) in
+      go (t .0) (t .1) (eqb (runsOn g (t .0)) c) refl (t .2)
+    where
+      go : (v : ℕ) → v < g .graph .nodes → (t : Bool) → eqb (runsOn g v) c ≡ t → 0 < pick t (held (p .length) (p .start v) (hold (g .class c)) 1) 0 → Entered g p (g .graph .nodes) 1 c
+      go v l true e h =
+          let on = eqb-true (runsOn g v) c e in
+          (v, l, on, held-enters v l (subst (λ (x : ℕ). 0 < held (p .length) (p .start v) (hold (g .class x)) 1) (sym on) h))
+      go v l false e h = absurd (omega arith)
 
 module _ (g : Loop) (p : Pair) (b : Starting g p) where
   -- where no node of the class starts in a later step, the step before it is as busy

@@ -8,10 +8,10 @@ use Prim.Native.Nat.{ℕ, _+_, _*_, _/_, _%_, _≤_, _<_}
 use native.Mathlib.Omega.{arith}
 use native.Mathlib.Decide.{decLt}
 use native.Mathlib.Nat.{eq-or-lt-of-le}
-use lib.Dec.{ltb}
+use lib.Dec.{leb, ltb}
 use lib.ListN.{getD}
-use borrow.Author.Tests.{ltb-true, ltb-false, lt-ltb, le-ltb}
-use Rattle.lists.specs.Pick.{pick, both-ways}
+use borrow.Author.Tests.{leb-true, ltb-true, ltb-false, lt-ltb, le-ltb, lt-leb, le-leb}
+use Rattle.lists.specs.Pick.{pick, pick-true, pick-false, both-ways}
 use Rattle.lists.specs.Span.{span}
 use Rattle.lists.specs.Fold.{sumOf}
 use Rattle.lists.specs.Sums.{sum-same}
@@ -25,7 +25,7 @@ use Rattle.legal.specs.Judging.{over, unitsOf}
 use Rattle.tables.specs.declared.Timetable.{Timetable}
 use Rattle.tables.specs.Times.{Timed}
 use Rattle.rules.specs.Busy.{heldOn, busyIn, StartsIn, Seated}
-use Rattle.rules.specs.Crowded.{over-start, Over, units-lowest, units-none}
+use Rattle.rules.specs.Crowded.{Enters, Entered, first-entered, over-start, Over, units-lowest, units-none}
 
 abbrev pub spotOf : ℕ → ℕ → ℕ
 spotOf q c = q * 4 + c
@@ -34,6 +34,21 @@ spotOf q c = q * 4 + c
 unfoldable pub lowerSpot : ℕ → List ℕ → List ℕ → ℕ → Class → ℕ → ℕ → ℕ → ℕ
 lowerSpot l ks ss n k c q lowest =
     pick (ltb (spotOf q c) lowest && ltb (k .units) (busyIn l ks ss c (hold k) q n)) (spotOf q c) lowest
+
+-- the same of the step in which a node starts, and of step 1 where its operation runs over the end
+unfoldable pub nodeSpot : ℕ → List ℕ → List ℕ → ℕ → Class → ℕ → ℕ → ℕ → ℕ
+nodeSpot l ks ss n k c q lowest =
+    pick (leb (q + hold k) (l + 1)) (lowerSpot l ks ss n k c q lowest) (lowerSpot l ks ss n k c 1 (lowerSpot l ks ss n k c q lowest))
+
+module _ (l : ℕ) (ks ss : List ℕ) (n : ℕ) (k : Class) (c q lowest lower : ℕ) (is : lower ≡ lowerSpot l ks ss n k c q lowest) where
+  -- an operation that ends in the body enters no step but its start's
+  pub node-inside : q + hold k ≤ l + 1 → lower ≡ nodeSpot l ks ss n k c q lowest
+  unfolding nodeSpot
+  node-inside h = is ∙ sym (pick-true _ _ _ (le-leb (q + hold k) (l + 1) h))
+
+  pub node-over : (next : ℕ) → l + 1 < q + hold k → next ≡ lowerSpot l ks ss n k c 1 lower → next ≡ nodeSpot l ks ss n k c q lowest
+  unfolding nodeSpot
+  node-over next h e = e ∙ ap (lowerSpot l ks ss n k c 1) is ∙ sym (pick-false _ _ _ (lt-leb (q + hold k) (l + 1) h))
 
 module _ (l : ℕ) (ks ss : List ℕ) (n : ℕ) (k : Class) (c q lowest here busy : ℕ) (is-here : here ≡ spotOf q c) where
   pub lower-none : lowest ≤ here → lowest ≡ lowerSpot l ks ss n k c q lowest
@@ -53,10 +68,6 @@ module _ (l : ℕ) (ks ss : List ℕ) (n : ℕ) (k : Class) (c q lowest here bus
     unfolding lowerSpot pick
     lower-full h m = rw (lt-ltb (spotOf q c) lowest (omega arith), lt-ltb (k .units) (busyIn l ks ss c (hold k) q n) (omega arith)) is-here
 
--- step 1 with the classes below n
-abbrev pub FirstOf : ℕ → ℕ → ℕ → Type 0
-FirstOf n q c = (q ≡ 1) × (c < n)
-
 module _ (g : Loop) (p : Pair) where
   pub record Found (spot : ℕ) : Type 0 where
     pub step : ℕ
@@ -68,10 +79,6 @@ module _ (g : Loop) (p : Pair) where
   pub record Lowest (Seen : ℕ → ℕ → Type 0) (spot : ℕ) : Type 0 where
     pub found : spot < spotOf (p .length) 4 → Found spot
     pub least : (q c : ℕ) → Seen q c → over g p q c ≡ true → spot ≤ spotOf q c
-
-  -- and the starts of the nodes below v with their classes
-  abbrev pub StartOf : ℕ → ℕ → ℕ → Type 0
-  StartOf v q c = FirstOf (g .classes) q c ⊎ ((u : ℕ) × (u < v) × (p .start u ≡ q) × (runsOn g u ≡ c))
 
   pub lowest-none : (Seen : ℕ → ℕ → Type 0) (spot : ℕ) → ((q c : ℕ) → Seen q c → ⊥) → spotOf (p .length) 4 ≤ spot → Lowest Seen spot
   lowest-none Seen spot none e = record { found = λ h. absurd (omega arith); least = λ q c s. absurd (none q c s) }
@@ -115,23 +122,45 @@ module _ (g : Loop) (p : Pair) (t : Timetable) (timed : Timed g p t) where
           least = λ k d w o. ⊎-elim (λ seen. s .least k d seen o) (λ same. omega (arith, same, ltb-false (spotOf q c) spot lower)) w;
         })
 
-  -- the start of one node more
-  pub lowest-node : Seated g p → (v spot next : ℕ) → v < t .nodes → Lowest g p (StartOf g p v) spot
-      → next ≡ lowerSpot (t .length) (t .runs) (t .start) (t .nodes) (getD (t .class) (getD (t .runs) v 0) noClass) (getD (t .runs) v 0) (getD (t .start) v 0) spot
-      → Lowest g p (StartOf g p (v + 1)) next
+  -- what one node more enters
+  pub lowest-node : Seated g p → (v spot next : ℕ) → v < t .nodes → Lowest g p (Entered g p v) spot
+      → next ≡ nodeSpot (t .length) (t .runs) (t .start) (t .nodes) (getD (t .class) (getD (t .runs) v 0) noClass) (getD (t .runs) v 0) (getD (t .start) v 0) spot
+      → Lowest g p (Entered g p (v + 1)) next
+  unfolding nodeSpot pick
   lowest-node seated v spot next l s is =
       let inside : v < g .graph .nodes = omega (arith, timed .all-nodes) in
       let at = seated .starts v inside in
-      let here : next ≡ lowerSpot (t .length) (t .runs) (t .start) (t .nodes) (getD (t .class) (runsOn g v) noClass) (runsOn g v) (p .start v) spot = is ∙ rw (timed .runs-on v l, timed .starts v l) in
-      lowest-fewer g p _ _ next (seen v) (lowest-more (StartOf g p v) (p .start v) (runsOn g v) spot next s (at .0) (at .1) (seated .class v inside) here)
+      let c = runsOn g v in
+      let k = getD (t .class) c noClass in
+      let start = lowerSpot (t .length) (t .runs) (t .start) (t .nodes) k c (p .start v) spot in
+      let once = lowest-more (Entered g p v) (p .start v) c spot start s (at .0) (at .1) (seated .class v inside) refl in
+      let twice = lowest-more _ 1 c start _ once (omega arith) (seated .long) (seated .class v inside) refl in
+      let here : next ≡ nodeSpot (t .length) (t .runs) (t .start) (t .nodes) k c (p .start v) spot = is ∙ rw (timed .runs-on v l, timed .starts v l) in
+      go (leb (p .start v + hold k) (t .length + 1)) refl start _ here once twice
     where
-      seen : (v q c : ℕ) → StartOf g p (v + 1) q c → StartOf g p v q c ⊎ ((q ≡ p .start v) × (c ≡ runsOn g v))
-      seen v q c (inl first) = inl (inl first)
-      seen v q c (inr u) =
+      split : (q d : ℕ) → Entered g p (v + 1) q d → Entered g p v q d ⊎ ((d ≡ runsOn g v) × Enters g p v q)
+      split q d u =
           ⊎-elim
-          (λ (e : u .0 ≡ v). inr (sym (u .2) ∙ ap (p .start) e, sym (u .3) ∙ ap (runsOn g) e))
-          (λ m. inl (inr (u .0, m, u .2, u .3)))
+          (λ (e : u .0 ≡ v). inr (sym (u .2) ∙ ap (runsOn g) e, subst (λ (x : ℕ). Enters g p x q) e (u .3)))
+          (λ m. inl (u .0, m, u .2, u .3))
           (eq-or-lt-of-le (omega (arith, u .1)))
+
+      go : (b : Bool) → leb (p .start v + hold (getD (t .class) (runsOn g v) noClass)) (t .length + 1) ≡ b
+          → (first second : ℕ) → next ≡ pick b first second
+          → Lowest g p (λ q d. Entered g p v q d ⊎ ((q ≡ p .start v) × (d ≡ runsOn g v))) first
+          → Lowest g p (λ q d. (Entered g p v q d ⊎ ((q ≡ p .start v) × (d ≡ runsOn g v))) ⊎ ((q ≡ 1) × (d ≡ runsOn g v))) second
+          → Lowest g p (Entered g p (v + 1)) next
+      go true e first second is once twice =
+          subst (Lowest g p (Entered g p (v + 1))) (sym is) (lowest-fewer g p _ _ first inside once)
+        where
+          inside : (q d : ℕ) → Entered g p (v + 1) q d → Entered g p v q d ⊎ ((q ≡ p .start v) × (d ≡ runsOn g v))
+          inside q d u =
+              ⊎-elim inl
+              (λ w. ⊎-elim (λ s. inr (sym s, w .0)) (λ o. absurd (omega (arith, o .1, leb-true (p .start v + hold (getD (t .class) (runsOn g v) noClass)) (t .length + 1) e, timed .is-length, ap hold (timed .is-class (runsOn g v))))) (w .1))
+              (split q d u)
+      go false e first second is once twice =
+          subst (Lowest g p (Entered g p (v + 1))) (sym is)
+          (lowest-fewer g p _ _ second (λ q d u. ⊎-elim (λ w. inl (inl w)) (λ w. ⊎-elim (λ s. inl (inr (sym s, w .0))) (λ o. inr (o .0, w .0)) (w .1)) (split q d u)) twice)
 
 -- a timetable's starts are steps of its body where it is some loop's
 pub starts-in : (g : Loop) (p : Pair) (t : Timetable) → Timed g p t → Seated g p → StartsIn (t .length) (t .start) (t .nodes)
@@ -139,13 +168,13 @@ starts-in g p t timed seated v l =
     let s = seated .starts v (omega (arith, timed .all-nodes)) in
     (omega (arith, s, timed .starts v l), omega (arith, s, timed .starts v l, timed .is-length))
 
--- the lowest of step 1 and of all starts is the lowest that there is
-module _ (g : Loop) (p : Pair) (seated : Seated g p) (spot : ℕ) (s : Lowest g p (StartOf g p (g .graph .nodes)) spot) where
+-- the lowest that a node enters is the lowest that there is
+module _ (g : Loop) (p : Pair) (seated : Seated g p) (spot : ℕ) (s : Lowest g p (Entered g p (g .graph .nodes)) spot) where
   over-least : (q c : ℕ) → Over g p q c → spot ≤ spotOf q c
   over-least q c o =
       ⊎-elim
-      (λ first. omega (arith, s .least 1 c (inl (refl, o .class)) first, o .begins))
-      (λ t. omega (arith, s .least (p .start (t .node)) c (inr (t .node, t .node-in, refl, t .class)) (t .is-over), t .by))
+      (λ first. omega (arith, s .least 1 c (first-entered g p (seated .starts) c first) first, o .begins))
+      (λ t. omega (arith, s .least (p .start (t .node)) c (t .node, t .node-in, t .class, inl refl) (t .is-over), t .by))
       (over-start g p (seated .starts) c q (o .begins) (o .ends) (o .is-over))
 
   lower : (k d : ℕ) → spot ≡ spotOf k d → d < 4 → (q c : ℕ) → Over g p q c → (k < q) ⊎ ((k ≡ q) × (d ≤ c))

@@ -7,7 +7,7 @@ ghost use Rattle.tables.specs.Edges.{Ends, Told};
 ghost use Rattle.tables.specs.Times.{SoundTimes, Timed};
 ghost use Rattle.legal.specs.Held.{held};
 ghost use Rattle.rules.specs.Busy.{heldOn, busyIn, StartsIn, Seated};
-ghost use Rattle.rules.specs.Lowest.{lowerSpot, FirstOf, Lowest};
+ghost use Rattle.rules.specs.Lowest.{lowerSpot, nodeSpot};
 use answer::Refusal;
 use form::Class;
 use form::hold_of;
@@ -144,44 +144,42 @@ fn lower_spot<'a>(
     here
 }
 
-// The lowest spot of step 1, into which an operation of any class may run over the end; `past` where there is none.
-fn first_spot(times: Timetable, past: u32) -> u32
-    requires { ⌜ SoundTimes times ⌝ }
-    requires { ⌜ ((g : Loop) × ((p : Pair) × Timed g p times × Seated g p)) ⌝ }
-    requires { ⌜ past ≡ times .length * 4 + 4 ⌝ }
-    ensures { λ r. ⌜ ((g : Loop) (p : Pair) → Timed g p times → Seated g p → Lowest g p (FirstOf (g .classes)) r) ⌝ }
+// The same of the step in which a node starts, and of step 1 where its operation runs over the end of the body.
+fn node_spot<'a>(
+    length: u16,
+    nodes: u8,
+    runs: &'a [u8; 64],
+    start: &'a [u16; 64],
+    class: Class,
+    number: u8,
+    step: u16,
+    lowest: u32,
+) -> u32
+    requires { ⌜ (nodes ≤ 64) × (1 ≤ step) × (step ≤ length) × StartsIn length (now start) nodes ⌝ }
+    ensures { λ r. ⌜ r ≡ nodeSpot length (now (runs .entry)) (now (start .entry)) nodes class number step lowest ⌝ }
 {
-    let mut lowest = past;
-    for c in 0..times.classes {
-        let class = times.class[c as usize];
-        lowest = lower_spot(
-            times.length,
-            times.nodes,
-            &times.runs,
-            &times.start,
-            class,
-            c,
-            1,
-            lowest,
-        );
+    let lower = lower_spot(length, nodes, runs, start, class, number, step, lowest);
+    let end = step as u32 + hold_of(class) as u32;
+    if end <= length as u32 + 1 {
+        return lower;
     }
-    lowest
+    lower_spot(length, nodes, runs, start, class, number, 1, lower)
 }
 
-// Units with the lowest overfull step and its lowest class: that is step 1, or a node of the class starts there, or the step before would hold as much.
+// Units with the lowest overfull step and its lowest class: a node of the class starts there or runs over the end into step 1, or the step before would hold as much.
 pub fn crowded(times: Timetable) -> Refusal
     requires { ⌜ SoundTimes times ⌝ }
     requires { ⌜ ((g : Loop) × ((p : Pair) × Timed g p times × Seated g p)) ⌝ }
     ensures { λ r. ⌜ ((g : Loop) (p : Pair) → Timed g p times → Seated g p → r ≡ unitsOf g p) ⌝ }
 {
     let past = spot(times.length, 4);
-    let mut lowest = first_spot(times, past);
+    let mut lowest = past;
     for v in 0..times.nodes {
         let i = v as usize;
         let number = times.runs[i];
         let step = times.start[i];
         let class = times.class[number as usize];
-        lowest = lower_spot(
+        lowest = node_spot(
             times.length,
             times.nodes,
             &times.runs,
