@@ -21,7 +21,7 @@ use Rattle.reader.specs.declared.NodeTable.{NodeTable}
 use Rattle.reader.specs.declared.EdgeTable.{EdgeTable}
 use Rattle.reader.specs.declared.StartTable.{StartTable}
 use Rattle.reader.specs.declared.Reading.{Reading}
-use Rattle.reader.specs.Rows.{classAt, nodeAt, edgeAt, startAt}
+use Rattle.rows.specs.Rows.{classAt, nodeAt, edgeAt, startAt}
 
 -- the mark "RSK" as one number of three bytes, version 1, then C, N, E and L
 module _ (s : List ℕ) where

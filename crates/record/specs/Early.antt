@@ -15,7 +15,7 @@ use Rattle.field.specs.declared.Taken.{Taken}
 use Rattle.field.specs.Number.{numberAt}
 use Rattle.field.specs.Taking.{wrongAt, onward, taken}
 use Rattle.reader.specs.declared.Reading.{Reading}
-use Rattle.reader.specs.Rows.{classAt, nodeAt, edgeAt, startAt}
+use Rattle.rows.specs.Rows.{classAt, nodeAt, edgeAt, startAt}
 use Rattle.reader.specs.Tables.{headerOf, table, classStep, nodeStep, edgeStep, startStep}
 use Rattle.reader.specs.Reading.{classesRead, nodesRead, edgesRead, startsRead, normalized, endOf, answered, readForm}
 

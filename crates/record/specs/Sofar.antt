@@ -15,7 +15,7 @@ use Rattle.form.specs.Ranges.{GoodClass, GoodEdge}
 use Rattle.field.specs.Number.{Bytes}
 use Rattle.field.specs.Taking.{onward}
 use Rattle.reader.specs.declared.Reading.{Reading}
-use Rattle.reader.specs.Rows.{classAt, nodeAt, edgeAt, startAt}
+use Rattle.rows.specs.Rows.{classAt, nodeAt, edgeAt, startAt}
 use Rattle.reader.specs.Tables.{headerOf, classStep, nodeStep, edgeStep, startStep}
 use Rattle.writer.specs.Layout.{classBytes, nodeBytes, edgeBytes}
 use Rattle.record.specs.Held.{Sized}

@@ -22,7 +22,7 @@ use Rattle.field.specs.declared.Cursor.{Cursor}
 use Rattle.field.specs.Number.{Bytes, numberAt, bytesOf, number-lt, number-take, number-drop}
 use Rattle.field.specs.Taking.{taken, onward, wrongAt}
 use Rattle.field.specs.Laws.{Outside, bad}
-use Rattle.reader.specs.Rows.{latencyIn, unitsIn, classAt, classIn, codeIn, nodeAt, fromIn, toIn, edgeAt, startIn, startAt}
+use Rattle.rows.specs.Rows.{latencyIn, unitsIn, classAt, classIn, codeIn, nodeAt, fromIn, toIn, edgeAt, startIn, startAt}
 use Rattle.writer.specs.Layout.{codeOf, classBytes, nodeBytes, edgeBytes, startBytes}
 use Rattle.record.specs.LayoutSize.{node-width, start-width}
 use Rattle.record.specs.ReadRows.{Slot, slotBytes, GoodSlot}
