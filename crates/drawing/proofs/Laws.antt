@@ -121,13 +121,13 @@ pub start-more : (q c : ℕ) (runs start retiming l : List ℕ) (at : ℕ) (m o 
 start-more q c runs start retiming l at m o i e g k s r x y is-k is-s is-r = row-more l at _ i m o e g x (rw (is-k, is-s, is-r) at y)
 
 module _ (f : Form) (steps nodes : ℕ) (runs start retiming : List ℕ) (t : Noted f steps nodes runs start retiming) (q c : ℕ) where
-  starts-same : rows (λ v. startPlace q c v (getD runs v 0) (getD start v 0) (getD retiming v 0)) nodes ≡ rows (λ v. startPlace q c v (nodeOf f v .class) (startOf f v) (retimingOf f v)) (f .nodes)
+  starts-same : rows (λ v. startPlace q c v (getD runs v 0) (getD start v 0) (getD retiming v 0)) nodes ≡ rows (λ v. startPlace q c v (nodeOf f v .class) (startOf f v) (retimingOf f v)) (f .header .nodes)
   starts-same =
       rows-same _ (λ v. startPlace q c v (nodeOf f v .class) (startOf f v) (retimingOf f v)) nodes
       (λ v l. rw (← (t .runs-on v l), ← (t .starts v l), ← (t .retimed v l)))
       ∙ ap (rows (λ v. startPlace q c v (nodeOf f v .class) (startOf f v) (retimingOf f v))) (sym (t .all-nodes))
 
-  held-same : (h : ℕ) → rows (λ v. heldPlace q c h v (getD runs v 0) (getD start v 0)) nodes ≡ rows (λ v. heldPlace q c h v (nodeOf f v .class) (startOf f v)) (f .nodes)
+  held-same : (h : ℕ) → rows (λ v. heldPlace q c h v (getD runs v 0) (getD start v 0)) nodes ≡ rows (λ v. heldPlace q c h v (nodeOf f v .class) (startOf f v)) (f .header .nodes)
   held-same h =
       rows-same _ (λ v. heldPlace q c h v (nodeOf f v .class) (startOf f v)) nodes (λ v l. rw (← (t .runs-on v l), ← (t .starts v l)))
       ∙ ap (rows (λ v. heldPlace q c h v (nodeOf f v .class) (startOf f v))) (sym (t .all-nodes))
@@ -135,9 +135,9 @@ module _ (f : Form) (steps nodes : ℕ) (runs start retiming : List ℕ) (t : No
   busy-same : busyIn steps runs start c (hold (classOf f c)) q nodes ≡ busy (loopOf f) (pairOf f) c q
   unfolding busyIn heldOn busy loopOf pairOf graphOf
   busy-same =
-      sum-same (λ v. heldOn steps (getD runs v 0) (getD start v 0) c (hold (classOf f c)) q) (λ v. heldOn (f .length) (nodeOf f v .class) (startOf f v) c (hold (classOf f c)) q) 0 nodes
+      sum-same (λ v. heldOn steps (getD runs v 0) (getD start v 0) c (hold (classOf f c)) q) (λ v. heldOn (f .header .length) (nodeOf f v .class) (startOf f v) c (hold (classOf f c)) q) 0 nodes
       (λ v a l. rw (t .is-length, ← (t .runs-on v (omega arith)), ← (t .starts v (omega arith))))
-      ∙ ap (λ (n : ℕ). sumOf (λ v. heldOn (f .length) (nodeOf f v .class) (startOf f v) c (hold (classOf f c)) q) (span 0 n)) (sym (t .all-nodes))
+      ∙ ap (λ (n : ℕ). sumOf (λ v. heldOn (f .header .length) (nodeOf f v .class) (startOf f v) c (hold (classOf f c)) q) (span 0 n)) (sym (t .all-nodes))
 
   -- the bar, the nodes that start, those that hold, the free units
   pub places-put : (k : Class) (held taken free : ℕ) → k ≡ classOf f c → held ≡ hold k → taken ≡ busyIn steps runs start c held q nodes → free ≡ k .units - taken

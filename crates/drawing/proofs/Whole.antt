@@ -31,7 +31,7 @@ use Rattle.drawing.specs.Noted.{Noted, Narrow, TimesTabled}
 
 -- ---- a row
 
-pub row-put : (f : Form) (q n : ℕ) → n ≡ f .classes → (l : List ℕ) (at : ℕ) (m o p : List ℕ) (e g h : ℕ) → Laid l at (right (decimal q)) m e
+pub row-put : (f : Form) (q n : ℕ) → n ≡ f .header .classes → (l : List ℕ) (at : ℕ) (m o p : List ℕ) (e g h : ℕ) → Laid l at (right (decimal q)) m e
     → Laid m e (rows (placesText f q) n) o g → Laid o g newline p h → Laid l at (rowText f q) p h
 unfolding rowText
 row-put f q n is l at m o p e g h x y z = both l at _ _ m p e h x (both m e _ _ o p g h (rw is at y) z)
@@ -64,8 +64,8 @@ module _ (f : Form) (t : Timetable) (is : t ≡ timesOf f) where
   times-noted = rw is (record {
     is-length = refl;
     all-nodes = refl;
-    runs-on = λ v l. sym (filled-at 64 (λ u. nodeOf f u .class) (f .nodes) v l);
-    starts = λ v l. sym (filled-at 64 (startOf f) (f .nodes) v l);
+    runs-on = λ v l. sym (filled-at 64 (λ u. nodeOf f u .class) (f .header .nodes) v l);
+    starts = λ v l. sym (filled-at 64 (startOf f) (f .header .nodes) v l);
     retimed = λ v l. refl;
   })
 
@@ -73,17 +73,17 @@ module _ (f : Form) (t : Timetable) (is : t ≡ timesOf f) where
   unfolding timesOf
   times-class = rw is refl
 
-  pub times-classes : t .classes ≡ f .classes
+  pub times-classes : t .classes ≡ f .header .classes
   unfolding timesOf
   times-classes = rw is refl
 
-  pub times-length : t .length ≡ f .length
+  pub times-length : t .length ≡ f .header .length
   unfolding timesOf
   times-length = rw is refl
 
   pub table-put : (l m o p r s : List ℕ) (e g h i n : ℕ) → Laid l 0 (rows (λ c. classLine c (getD (t .class) c noClass)) (t .classes)) m e
       → Laid m e stepWord o g → Laid o g (rows (λ c. headText c (getD (t .class) c noClass .units)) (t .classes)) p h → Laid p h newline r i
-      → Laid r i (rows (λ k. rowText f (k + 1)) (f .length)) s n → Laid l 0 (tableText f) s n
+      → Laid r i (rows (λ k. rowText f (k + 1)) (f .header .length)) s n → Laid l 0 (tableText f) s n
   unfolding tableText headsLine
   table-put l m o p r s e g h i n x y z w v =
       both l 0 _ _ m s e n (rw (times-class, times-classes) at x)

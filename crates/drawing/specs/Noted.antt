@@ -13,8 +13,8 @@ use Rattle.tables.specs.Times.{timesOf}
 
 -- the length, and tables that hold each node's class, start and retiming
 pub record Noted (f : Form) (steps nodes : ℕ) (runs start retiming : List ℕ) : Type 0 where
-  pub is-length : f .length ≡ steps
-  pub all-nodes : f .nodes ≡ nodes
+  pub is-length : f .header .length ≡ steps
+  pub all-nodes : f .header .nodes ≡ nodes
   pub runs-on : (v : ℕ) → v < nodes → nodeOf f v .class ≡ getD runs v 0
   pub starts : (v : ℕ) → v < nodes → startOf f v ≡ getD start v 0
   pub retimed : (v : ℕ) → v < nodes → retimingOf f v ≡ getD retiming v 0

@@ -116,31 +116,31 @@ occupies-split true q s h l = go (decLt s q) (ℕ-discrete s q)
     go (no a) (no e) = rw (ne-eqb s q e, le-ltb s q (omega arith), lt-leb s q (omega arith)) refl
 
 module _ (f : Form) (w : WellFormed f) (rule : UnitRule (loopOf f) (pairOf f)) where
-  module _ (q : ℕ) (from : 1 ≤ q) (to : q ≤ f .length) where
-    retimed : (v : ℕ) → v < f .nodes → retimingOf f v < 100
+  module _ (q : ℕ) (from : 1 ≤ q) (to : q ≤ f .header .length) where
+    retimed : (v : ℕ) → v < f .header .nodes → retimingOf f v < 100
     retimed v l = omega (arith, w .schedule (λ e. omega arith) .starts v l .retiming)
 
-    module _ (c : ℕ) (inside : c < f .classes) where
+    module _ (c : ℕ) (inside : c < f .header .classes) where
       startsHere : ℕ → Bool
       startsHere v = eqb (nodeOf f v .class) c && eqb (startOf f v) q
 
       holdsHere : ℕ → Bool
       holdsHere v = eqb (nodeOf f v .class) c && (ltb (startOf f v) q && ltb q (startOf f v + hold (classOf f c)))
 
-      starts-size : length (rows (λ v. startPlace q c v (nodeOf f v .class) (startOf f v) (retimingOf f v)) (f .nodes)) ≡ 6 * count startsHere (span 0 (f .nodes))
+      starts-size : length (rows (λ v. startPlace q c v (nodeOf f v .class) (startOf f v) (retimingOf f v)) (f .header .nodes)) ≡ 6 * count startsHere (span 0 (f .header .nodes))
       unfolding startsHere
-      starts-size = rows-count _ startsHere (f .nodes) (λ v l. start-size q c v _ _ _ (omega (arith, w .nodes)) (retimed v l))
+      starts-size = rows-count _ startsHere (f .header .nodes) (λ v l. start-size q c v _ _ _ (omega (arith, w .nodes)) (retimed v l))
 
-      holds-size : length (rows (λ v. heldPlace q c (hold (classOf f c)) v (nodeOf f v .class) (startOf f v)) (f .nodes)) ≡ 6 * count holdsHere (span 0 (f .nodes))
+      holds-size : length (rows (λ v. heldPlace q c (hold (classOf f c)) v (nodeOf f v .class) (startOf f v)) (f .header .nodes)) ≡ 6 * count holdsHere (span 0 (f .header .nodes))
       unfolding holdsHere
-      holds-size = rows-count _ holdsHere (f .nodes) (λ v l. held-size q c (hold (classOf f c)) v _ _)
+      holds-size = rows-count _ holdsHere (f .header .nodes) (λ v l. held-size q c (hold (classOf f c)) v _ _)
 
       -- the nodes drawn are those that occupy a unit
-      drawn-busy : count startsHere (span 0 (f .nodes)) + count holdsHere (span 0 (f .nodes)) ≡ busy (loopOf f) (pairOf f) c q
+      drawn-busy : count startsHere (span 0 (f .header .nodes)) + count holdsHere (span 0 (f .header .nodes)) ≡ busy (loopOf f) (pairOf f) c q
       unfolding startsHere holdsHere spans loopOf pairOf graphOf
       drawn-busy =
-          let some : f .length ≢ 0 = λ e. omega arith in
-          count-split startsHere holdsHere (spans (loopOf f) (pairOf f) c q) (f .nodes)
+          let some : f .header .length ≢ 0 = λ e. omega arith in
+          count-split startsHere holdsHere (spans (loopOf f) (pairOf f) c q) (f .header .nodes)
           (λ v l. occupies-split (eqb (nodeOf f v .class) c) q (startOf f v) (hold (classOf f c)) (hold-some (classOf f c) (w .class c inside .latency .0)))
           ∙ busy-plain (loopOf f) (pairOf f) (sound-form f w) (plain-form f) (placed-form f w some .body) c q
 
@@ -163,8 +163,8 @@ module _ (f : Form) (w : WellFormed f) (rule : UnitRule (loopOf f) (pairOf f)) w
             starts-size,
             holds-size,
             free-size,
-            length-append (rows (λ v. startPlace q c v (nodeOf f v .class) (startOf f v) (retimingOf f v)) (f .nodes)) (rows (λ v. heldPlace q c (hold (classOf f c)) v (nodeOf f v .class) (startOf f v)) (f .nodes) ++ rows (λ i. freeWord) (classOf f c .units - busy (loopOf f) (pairOf f) c q)),
-            length-append (rows (λ v. heldPlace q c (hold (classOf f c)) v (nodeOf f v .class) (startOf f v)) (f .nodes)) (rows (λ i. freeWord) (classOf f c .units - busy (loopOf f) (pairOf f) c q)),
+            length-append (rows (λ v. startPlace q c v (nodeOf f v .class) (startOf f v) (retimingOf f v)) (f .header .nodes)) (rows (λ v. heldPlace q c (hold (classOf f c)) v (nodeOf f v .class) (startOf f v)) (f .header .nodes) ++ rows (λ i. freeWord) (classOf f c .units - busy (loopOf f) (pairOf f) c q)),
+            length-append (rows (λ v. heldPlace q c (hold (classOf f c)) v (nodeOf f v .class) (startOf f v)) (f .header .nodes)) (rows (λ i. freeWord) (classOf f c .units - busy (loopOf f) (pairOf f) c q)),
           )
 
     row-size : length (rowText f q) ≤ 207
@@ -174,12 +174,12 @@ module _ (f : Form) (w : WellFormed f) (rule : UnitRule (loopOf f) (pairOf f)) w
           arith,
           w .classes,
           right-size (decimal q) (omega (arith, decimal-three q)),
-          rows-under (placesText f q) 50 (f .classes) places-size,
-          length-append (right (decimal q)) (rows (placesText f q) (f .classes) ++ newline),
-          length-append (rows (placesText f q) (f .classes)) newline,
+          rows-under (placesText f q) 50 (f .header .classes) places-size,
+          length-append (right (decimal q)) (rows (placesText f q) (f .header .classes) ++ newline),
+          length-append (rows (placesText f q) (f .header .classes)) newline,
         )
 
-  class-size : (c : ℕ) → c < f .classes → length (classLine c (classOf f c)) ≤ 39
+  class-size : (c : ℕ) → c < f .header .classes → length (classLine c (classOf f c)) ≤ 39
   unfolding classLine classWord latencyWord unitsWord plainWord pipelinedWord
   class-size c inside =
       let k : Class = classOf f c in
@@ -197,7 +197,7 @@ module _ (f : Form) (w : WellFormed f) (rule : UnitRule (loopOf f) (pairOf f)) w
         length-append (pick (eqb (k .pipelined) 0) plainWord pipelinedWord) newline,
       )
 
-  head-size : (c : ℕ) → c < f .classes → length (headText c (classOf f c .units)) ≤ 50
+  head-size : (c : ℕ) → c < f .header .classes → length (headText c (classOf f c .units)) ≤ 50
   unfolding headText barWord
   head-size c inside =
       omega (
@@ -214,8 +214,8 @@ module _ (f : Form) (w : WellFormed f) (rule : UnitRule (loopOf f) (pairOf f)) w
       omega (
         arith,
         w .classes,
-        rows-under (λ c. headText c (classOf f c .units)) 50 (f .classes) head-size,
-        length-append (rows (λ c. headText c (classOf f c .units)) (f .classes)) newline,
+        rows-under (λ c. headText c (classOf f c .units)) 50 (f .header .classes) head-size,
+        length-append (rows (λ c. headText c (classOf f c .units)) (f .header .classes)) newline,
       )
 
   pub table-size : length (tableText f) ≤ 106347
@@ -226,10 +226,10 @@ module _ (f : Form) (w : WellFormed f) (rule : UnitRule (loopOf f) (pairOf f)) w
         w .classes,
         w .length,
         heads-size,
-        rows-under (λ c. classLine c (classOf f c)) 39 (f .classes) class-size,
-        rows-under (λ i. rowText f (i + 1)) 207 (f .length) (λ i l. row-size (i + 1) (omega arith) (omega arith)),
-        length-append (rows (λ c. classLine c (classOf f c)) (f .classes)) (headsLine f ++ rows (λ i. rowText f (i + 1)) (f .length)),
-        length-append (headsLine f) (rows (λ i. rowText f (i + 1)) (f .length)),
+        rows-under (λ c. classLine c (classOf f c)) 39 (f .header .classes) class-size,
+        rows-under (λ i. rowText f (i + 1)) 207 (f .header .length) (λ i l. row-size (i + 1) (omega arith) (omega arith)),
+        length-append (rows (λ c. classLine c (classOf f c)) (f .header .classes)) (headsLine f ++ rows (λ i. rowText f (i + 1)) (f .header .length)),
+        length-append (headsLine f) (rows (λ i. rowText f (i + 1)) (f .header .length)),
       )
 
 -- a record that the judge accepts is drawn in a buffer of so many bytes

@@ -49,18 +49,18 @@ module _ (f : Form) (q : ℕ) where
   -- class c in step q: the nodes that start, ascending, those that still hold a unit, and the units that are free
   unfoldable pub placesText : ℕ → List ℕ
   placesText c =
-      barWord ++ (rows (λ v. startPlace q c v (nodeOf f v .class) (startOf f v) (retimingOf f v)) (f .nodes)
-      ++ (rows (λ v. heldPlace q c (hold (classOf f c)) v (nodeOf f v .class) (startOf f v)) (f .nodes)
+      barWord ++ (rows (λ v. startPlace q c v (nodeOf f v .class) (startOf f v) (retimingOf f v)) (f .header .nodes)
+      ++ (rows (λ v. heldPlace q c (hold (classOf f c)) v (nodeOf f v .class) (startOf f v)) (f .header .nodes)
       ++ rows (λ i. freeWord) (classOf f c .units - busy (loopOf f) (pairOf f) c q)))
 
   unfoldable pub rowText : List ℕ
-  rowText = right (decimal q) ++ (rows placesText (f .classes) ++ newline)
+  rowText = right (decimal q) ++ (rows placesText (f .header .classes) ++ newline)
 
 unfoldable pub headsLine : Form → List ℕ
-headsLine f = stepWord ++ (rows (λ c. headText c (classOf f c .units)) (f .classes) ++ newline)
+headsLine f = stepWord ++ (rows (λ c. headText c (classOf f c .units)) (f .header .classes) ++ newline)
 
 unfoldable pub tableText : Form → List ℕ
-tableText f = rows (λ c. classLine c (classOf f c)) (f .classes) ++ (headsLine f ++ rows (λ i. rowText f (i + 1)) (f .length))
+tableText f = rows (λ c. classLine c (classOf f c)) (f .header .classes) ++ (headsLine f ++ rows (λ i. rowText f (i + 1)) (f .header .length))
 
 -- what is drawn of a record: nothing of one that is refused
 unfoldable pub drawingOf : List ℕ → List ℕ

@@ -314,7 +314,7 @@ fn put_row<'a>(
     retiming: &'a [u8; 64],
 ) -> usize
     requires { ⌜ (at ≤ 1740000) × (step < 1000) × (nodes ≤ 64) × (1 ≤ step) × (step ≤ length) × StartsIn length (now start) nodes × Narrow classes class ⌝ }
-    ensures { λ r. ⌜ (r ≤ at + 3279) × ((f : Form) → Noted f length nodes (now (runs .entry)) (now (start .entry)) (now (retiming .entry)) → class ≡ f .class → classes ≡ f .classes → Laid (now (out .entry)) at (rowText f step) (now (out .exit)) r) ⌝ }
+    ensures { λ r. ⌜ (r ≤ at + 3279) × ((f : Form) → Noted f length nodes (now (runs .entry)) (now (start .entry)) (now (retiming .entry)) → class ≡ f .class → classes ≡ f .header .classes → Laid (now (out .entry)) at (rowText f step) (now (out .exit)) r) ⌝ }
 {
     let first = put_right(out, at, step as u32);
     let end = put_columns(
@@ -335,7 +335,7 @@ fn put_row<'a>(
 // The rows of the body's steps.
 fn put_rows(out: &mut [u8], at: usize, times: Timetable) -> usize
     requires { ⌜ (at ≤ 1000) × TimesTabled times ⌝ }
-    ensures { λ r. ⌜ (r ≤ at + 1678848) × ((f : Form) → times ≡ timesOf f → Laid (now (out .entry)) at (rows (λ i. rowText f (i + 1)) (f .length)) (now (out .exit)) r) ⌝ }
+    ensures { λ r. ⌜ (r ≤ at + 1678848) × ((f : Form) → times ≡ timesOf f → Laid (now (out .entry)) at (rows (λ i. rowText f (i + 1)) (f .header .length)) (now (out .exit)) r) ⌝ }
 {
     let length = times.length;
     let class = times.class;

@@ -47,19 +47,19 @@ unfolding unitsOf
 units-number g p = pick-ind (λ r. (numberOf r ≢ 12) × (numberOf r ≢ 14)) (leb (overStep g p) (p .length)) _ _ (λ e. (omega arith, omega arith)) (λ e. (omega arith, omega arith))
 
 module _ (f : Form) where
-  pub plan-bare : f .length ≡ 0 → (c : Cycle) → c ≡ noCycle → (rs : List ℕ) → FitPlanned f (record { refusal = Bare; retiming = rs; cycle = c })
+  pub plan-bare : f .header .length ≡ 0 → (c : Cycle) → c ≡ noCycle → (rs : List ℕ) → FitPlanned f (record { refusal = Bare; retiming = rs; cycle = c })
   unfolding fitOf fine
   plan-bare z c e rs = record {
-    refusal = sym (pick-true (eqb (f .length) 0) _ _ (eq-eqb _ _ z));
+    refusal = sym (pick-true (eqb (f .header .length) 0) _ _ (eq-eqb _ _ z));
     form = λ q. both-ways q refl;
     handed = handed-none (loopOf f) (pairOf f) Bare c (omega arith) (omega arith) e;
   }
 
-  module _ (n : f .length ≢ 0) (k : Cycle) (found : KnotFound (loopOf f) k) where
+  module _ (n : f .header .length ≢ 0) (k : Cycle) (found : KnotFound (loopOf f) k) where
     pub plan-knot : 0 < k .count → (rs : List ℕ) → FitPlanned f (record { refusal = Knot; retiming = rs; cycle = k })
     unfolding fitOf fine
     plan-knot l rs = record {
-      refusal = sym (pick-false (eqb (f .length) 0) _ _ (ne-eqb _ _ n) ∙ pick-true (knotted (loopOf f)) _ _ (found .tied l));
+      refusal = sym (pick-false (eqb (f .header .length) 0) _ _ (ne-eqb _ _ n) ∙ pick-true (knotted (loopOf f)) _ _ (found .tied l));
       form = λ q. both-ways q refl;
       handed = handed-knot (loopOf f) (pairOf f) k (found .knot l) (found .tallies);
     }

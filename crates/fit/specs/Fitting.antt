@@ -23,7 +23,7 @@ use Rattle.fit.specs.Retimed.{fittedForm}
 -- what is refused of a form before anything is written
 unfoldable pub fitOf : Form → Refusal
 fitOf f =
-    pick (eqb (f .length) 0) Bare
+    pick (eqb (f .header .length) 0) Bare
     (pick (knotted (loopOf f)) Knot
     (pick (settledOf (limits (loopOf f) (pairOf f)) .settled) (unitsOf (loopOf f) (pairOf f)) NoRetiming))
 

@@ -39,7 +39,7 @@ use Rattle.fit.specs.Retimings.{retimings-length, retimings-small, retim
 
 -- ---- the form with the retiming found
 
-module _ (f : Form) (w : WellFormed f) (n : f .length ≢ 0) (q : Settles (loopOf f) (pairOf f)) where
+module _ (f : Form) (w : WellFormed f) (n : f .header .length ≢ 0) (q : Settles (loopOf f) (pairOf f)) where
   -- it is well-formed
   pub fitted-well-formed : WellFormed (fittedForm f)
   unfolding fittedForm withRetiming loopOf graphOf
@@ -152,13 +152,13 @@ module _ (g : Loop) (p : Pair) where
   of-fits (fits n free s u) = (n, free, s, u)
 
 -- with a schedule and no knot it goes by the limits
-pub past-knots : (f : Form) → f .length ≢ 0 → knotted (loopOf f) ≡ false
+pub past-knots : (f : Form) → f .header .length ≢ 0 → knotted (loopOf f) ≡ false
     → fitOf f ≡ pick (settledOf (limits (loopOf f) (pairOf f)) .settled) (unitsOf (loopOf f) (pairOf f)) NoRetiming
 unfolding fitOf
 past-knots f n k = pick-false _ _ _ (ne-eqb _ _ n) ∙ pick-false _ _ _ k
 
 module _ (f : Form) (w : WellFormed f) where
-  settles-or-not : (b : Bool) → settledOf (limits (loopOf f) (pairOf f)) .settled ≡ b → f .length ≢ 0 → Free (loopOf f)
+  settles-or-not : (b : Bool) → settledOf (limits (loopOf f) (pairOf f)) .settled ≡ b → f .header .length ≢ 0 → Free (loopOf f)
       → FitTold (loopOf f) (pairOf f) (pick b (unitsOf (loopOf f) (pairOf f)) NoRetiming)
   unfolding pick pairOf
   settles-or-not true q n free = told-units (loopOf f) (pairOf f) n free q
@@ -168,7 +168,7 @@ module _ (f : Form) (w : WellFormed f) where
   pub fit-told : FitTold (loopOf f) (pairOf f) (fitOf f)
   unfolding fitOf pairOf
   fit-told =
-      pick-ind (FitTold (loopOf f) (pairOf f)) (eqb (f .length) 0) Bare _
+      pick-ind (FitTold (loopOf f) (pairOf f)) (eqb (f .header .length) 0) Bare _
       (λ z. bare (eqb-true _ _ z))
       (λ n. pick-ind (FitTold (loopOf f) (pairOf f)) (knotted (loopOf f)) Knotted _
       (λ k. let t = knotted-knot (loopOf f) (sound-form f w) k in knot (eqb-false _ _ n) (t .0) (t .1))
@@ -194,32 +194,32 @@ module _ (f : Form) (w : WellFormed f) where
   told r e = subst (FitTold (loopOf f) (pairOf f)) e fit-told
 
   -- Bare: the form has no schedule
-  pub fit-bare : fitOf f ≡ Bare → f .length ≡ 0
+  pub fit-bare : fitOf f ≡ Bare → f .header .length ≡ 0
   unfolding pairOf
   fit-bare e = of-bare (loopOf f) (pairOf f) (told Bare e)
 
   -- Knot: it has a schedule, and the loop has a knot
-  pub fit-knot : fitOf f ≡ Knotted → (f .length ≢ 0) × ((es : List ℕ) × Knot (loopOf f) es)
+  pub fit-knot : fitOf f ≡ Knotted → (f .header .length ≢ 0) × ((es : List ℕ) × Knot (loopOf f) es)
   unfolding pairOf
   fit-knot e = of-knot (loopOf f) (pairOf f) (told Knotted e)
 
   -- NoRetiming: it has a schedule, the loop has no knot, and no retiming fits the starts
-  pub fit-impossible : fitOf f ≡ NoRetiming → (f .length ≢ 0) × Free (loopOf f) × ((r : ℕ → ℕ) → Fits (loopOf f) (pairOf f) r → ⊥)
+  pub fit-impossible : fitOf f ≡ NoRetiming → (f .header .length ≢ 0) × Free (loopOf f) × ((r : ℕ → ℕ) → Fits (loopOf f) (pairOf f) r → ⊥)
   unfolding pairOf
   fit-impossible e = of-unfit (loopOf f) (pairOf f) (told NoRetiming e)
 
   -- where no retiming fits it is NoRetiming
-  pub impossible-fit : f .length ≢ 0 → Free (loopOf f) → ((r : ℕ → ℕ) → Fits (loopOf f) (pairOf f) r → ⊥) → fitOf f ≡ NoRetiming
+  pub impossible-fit : f .header .length ≢ 0 → Free (loopOf f) → ((r : ℕ → ℕ) → Fits (loopOf f) (pairOf f) r → ⊥) → fitOf f ≡ NoRetiming
   unfolding pairOf
   impossible-fit n free none = fit-is NoRetiming (unfit n free none)
 
   -- Units: some retiming fits, and step q and class c are the lowest over the units
-  pub fit-units : (q c : ℕ) → fitOf f ≡ Units q c → (f .length ≢ 0) × Free (loopOf f) × Settles (loopOf f) (pairOf f) × LowestOver (loopOf f) (pairOf f) q c
+  pub fit-units : (q c : ℕ) → fitOf f ≡ Units q c → (f .header .length ≢ 0) × Free (loopOf f) × Settles (loopOf f) (pairOf f) × LowestOver (loopOf f) (pairOf f) q c
   unfolding pairOf
   fit-units q c e = of-units (loopOf f) (pairOf f) q c (told (Units q c) e)
 
   -- nothing refused: some retiming fits, and the starts keep the unit rule
-  pub fit-none : fitOf f ≡ None → (f .length ≢ 0) × Free (loopOf f) × Settles (loopOf f) (pairOf f) × UnitRule (loopOf f) (pairOf f)
+  pub fit-none : fitOf f ≡ None → (f .header .length ≢ 0) × Free (loopOf f) × Settles (loopOf f) (pairOf f) × UnitRule (loopOf f) (pairOf f)
   unfolding pairOf
   fit-none e = of-fits (loopOf f) (pairOf f) (told None e)
 
@@ -233,12 +233,12 @@ module _ (f : Form) (w : WellFormed f) where
   fit-judged e = let t = fit-none e in accepts-judge (fittedForm f) (fitted-well-formed f w (t .0) (t .2)) (t .0) (fit-legal e)
 
   -- no retiming that fits is less deep than the one answered
-  pub fit-least : fitOf f ≡ None → (r : ℕ → ℕ) (d : ℕ) → Fits (loopOf f) (pairOf f) r → ((v : ℕ) → v < f .nodes → r v ≤ d) → top (fittedForm f .retiming) ≤ d
+  pub fit-least : fitOf f ≡ None → (r : ℕ → ℕ) (d : ℕ) → Fits (loopOf f) (pairOf f) r → ((v : ℕ) → v < f .header .nodes → r v ≤ d) → top (fittedForm f .retiming) ≤ d
   unfolding fittedForm withRetiming loopOf graphOf
   fit-least e r d h under = retimings-least (loopOf f) (pairOf f) (sound-form f w) (fit-none e .2) r d h under
 
   -- and none that is no deeper is larger at any node
-  pub fit-largest : fitOf f ≡ None → (r : ℕ → ℕ) → Fits (loopOf f) (pairOf f) r → ((v : ℕ) → v < f .nodes → r v ≤ top (fittedForm f .retiming))
-      → (v : ℕ) → v < f .nodes → r v ≤ retimingOf (fittedForm f) v
+  pub fit-largest : fitOf f ≡ None → (r : ℕ → ℕ) → Fits (loopOf f) (pairOf f) r → ((v : ℕ) → v < f .header .nodes → r v ≤ top (fittedForm f .retiming))
+      → (v : ℕ) → v < f .header .nodes → r v ≤ retimingOf (fittedForm f) v
   unfolding fittedForm withRetiming loopOf graphOf
   fit-largest e r h under = retimings-largest (loopOf f) (pairOf f) (sound-form f w) (fit-none e .2) r h under

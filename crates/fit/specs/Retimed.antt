@@ -23,10 +23,7 @@ retimings g p = filled 64 (fitted g p) (g .graph .nodes)
 -- the form with another retiming
 unfoldable pub withRetiming : Form → List ℕ → Form
 withRetiming f rs = record {
-  classes = f .classes;
-  nodes = f .nodes;
-  edges = f .edges;
-  length = f .length;
+  header = f .header;
   class = f .class;
   node = f .node;
   from = f .from;

@@ -160,12 +160,18 @@ fn fit_limits<'a>(
 // The retiming that fits the form's starts.
 pub fn fit_starts(form: Form) -> Fitting
     requires { ⌜ WellFormed form ⌝ }
-    requires { ⌜ form .length ≢ 0 ⌝ }
+    requires { ⌜ form .header .length ≢ 0 ⌝ }
     ensures { λ r. ⌜ StartsFitted (loopOf form) (pairOf form) r ⌝ }
 {
     let times = tables::times_of(form);
-    let limits = limits_of(form.edges, &form.from, &form.to, &form.delays, times);
-    fit_limits(form.nodes, form.edges, &form.from, &form.to, limits)
+    let limits = limits_of(form.header.edges, &form.from, &form.to, &form.delays, times);
+    fit_limits(
+        form.header.nodes,
+        form.header.edges,
+        &form.from,
+        &form.to,
+        limits,
+    )
 }
 
 // A refusal of a form, and the cycle that proves it.
@@ -251,7 +257,7 @@ pub fn fit(record: &[u8], out: &mut [u8]) -> Fitted
     }
     let times = tables::times_of(read.form);
     let plan = plan_tables(
-        read.form.edges,
+        read.form.header.edges,
         &read.form.from,
         &read.form.to,
         &read.form.delays,

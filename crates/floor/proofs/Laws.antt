@@ -149,7 +149,7 @@ module _ (n m : ℕ) (from to delays : List ℕ) (edged : Edged n m from to dela
 
 -- ---- the edges of a form
 
-all-edges : (f : Form) (m : ℕ) (from to delays : List ℕ) (t : Timetable) → Lent f m from to delays t → f .edges ≡ m
+all-edges : (f : Form) (m : ℕ) (from to delays : List ℕ) (t : Timetable) → Lent f m from to delays t → f .header .edges ≡ m
 unfolding loopOf graphOf
 all-edges f m from to delays t lent = lent .told .all-edges
 
@@ -161,7 +161,7 @@ module _ (f : Form) (m : ℕ) (from to delays : List ℕ) (t : Timetable) (lent 
     short = λ e l. omega (arith, lent .good .edge e (edge-in e l) .delays, lent .told .is-delay e l);
   }
     where
-      edge-in : (e : ℕ) → e < m → e < f .edges
+      edge-in : (e : ℕ) → e < m → e < f .header .edges
       edge-in e l = omega (arith, all-edges f m from to delays t lent)
 
   -- what the code reads as costs are the loop's

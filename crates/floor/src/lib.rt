@@ -324,7 +324,7 @@ pub fn floor(record: &[u8]) -> Floored
     }
     let times = tables::times_of(read.form);
     floor_tables(
-        read.form.edges,
+        read.form.header.edges,
         &read.form.from,
         &read.form.to,
         &read.form.delays,

@@ -17,10 +17,10 @@ unfoldable pub addedTo : Form → Bool → Form → Added
 addedTo f left g = pick left (record { form = g; refusal = None }) (record { form = f; refusal = Count 0 })
 
 unfoldable pub classAdded : Form → Class → Added
-classAdded f k = addedTo f (ltb (f .classes) 4) (withClass (withCounts f (f .classes + 1) (f .nodes) (f .edges) 0) (f .classes) k)
+classAdded f k = addedTo f (ltb (f .header .classes) 4) (withClass (withCounts f (f .header .classes + 1) (f .header .nodes) (f .header .edges) 0) (f .header .classes) k)
 
 unfoldable pub nodeAdded : Form → Node → Added
-nodeAdded f k = addedTo f (ltb (f .nodes) 64) (withNode (withCounts f (f .classes) (f .nodes + 1) (f .edges) 0) (f .nodes) k)
+nodeAdded f k = addedTo f (ltb (f .header .nodes) 64) (withNode (withCounts f (f .header .classes) (f .header .nodes + 1) (f .header .edges) 0) (f .header .nodes) k)
 
 unfoldable pub edgeAdded : Form → Edge → Added
-edgeAdded f k = addedTo f (ltb (f .edges) 256) (withEdge (withCounts f (f .classes) (f .nodes) (f .edges + 1) 0) (f .edges) k)
+edgeAdded f k = addedTo f (ltb (f .header .edges) 256) (withEdge (withCounts f (f .header .classes) (f .header .nodes) (f .header .edges + 1) 0) (f .header .edges) k)

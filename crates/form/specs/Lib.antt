@@ -1,4 +1,5 @@
 pub mod Places
+pub mod Offsets
 pub mod Adding
 pub mod Ranges
 pub mod Hold

@@ -1,4 +1,4 @@
--- The places of a form, read and filled by their number; the empty form; a form with its unused places 0.
+-- The parts of a form, each given whole; its places, read and filled by their number; the empty form; a form with its unused places 0.
 -- Assumes nothing.
 use mathlib.Core.List.{List, _++_}
 use Prim.Native.Nat.{ℕ, _-_}
@@ -6,6 +6,7 @@ use lib.Dec.{eqb}
 use lib.ListN.{length, getD, set, take, replicate}
 use Rattle.lists.specs.Pick.{pick}
 use Rattle.form.specs.declared.Form.{Form}
+use Rattle.form.specs.declared.Header.{Header}
 use Rattle.form.specs.declared.Class.{Class}
 use Rattle.form.specs.declared.Node.{Node}
 use Rattle.form.specs.declared.Edge.{Edge}
@@ -22,12 +23,12 @@ noNode = record { class = 0; operation = Add 0 }
 abbrev pub noStep : BodyStep
 noStep = record { 0 = 0 }
 
+abbrev pub noHeader : Header
+noHeader = record { classes = 0; nodes = 0; edges = 0; length = 0 }
+
 unfoldable pub emptyForm : Form
 emptyForm = record {
-  classes = 0;
-  nodes = 0;
-  edges = 0;
-  length = 0;
+  header = noHeader;
   class = replicate 4 noClass;
   node = replicate 64 noNode;
   from = replicate 256 0;
@@ -56,13 +57,10 @@ startOf f v = getD (f .start) v noStep .0
 abbrev pub retimingOf : Form → ℕ → ℕ
 retimingOf f v = getD (f .retiming) v 0
 
--- the form with the counts and the length given
-abbrev pub withCounts : Form → ℕ → ℕ → ℕ → ℕ → Form
-withCounts f c n e l = record {
-  classes = c;
-  nodes = n;
-  edges = e;
-  length = l;
+-- the form with one part given: the header or a whole table
+abbrev pub withHeader : Form → Header → Form
+withHeader f h = record {
+  header = h;
   class = f .class;
   node = f .node;
   from = f .from;
@@ -71,67 +69,71 @@ withCounts f c n e l = record {
   start = f .start;
   retiming = f .retiming;
 }
+
+abbrev pub withClasses : Form → List Class → Form
+withClasses f ks = record {
+  header = f .header;
+  class = ks;
+  node = f .node;
+  from = f .from;
+  to = f .to;
+  delays = f .delays;
+  start = f .start;
+  retiming = f .retiming;
+}
+
+abbrev pub withNodes : Form → List Node → Form
+withNodes f ns = record {
+  header = f .header;
+  class = f .class;
+  node = ns;
+  from = f .from;
+  to = f .to;
+  delays = f .delays;
+  start = f .start;
+  retiming = f .retiming;
+}
+
+abbrev pub withEdges : Form → List ℕ → List ℕ → List ℕ → Form
+withEdges f ts hs ds = record {
+  header = f .header;
+  class = f .class;
+  node = f .node;
+  from = ts;
+  to = hs;
+  delays = ds;
+  start = f .start;
+  retiming = f .retiming;
+}
+
+abbrev pub withStarts : Form → List BodyStep → List ℕ → Form
+withStarts f ss rs = record {
+  header = f .header;
+  class = f .class;
+  node = f .node;
+  from = f .from;
+  to = f .to;
+  delays = f .delays;
+  start = ss;
+  retiming = rs;
+}
+
+-- the form with the counts and the length given
+abbrev pub withCounts : Form → ℕ → ℕ → ℕ → ℕ → Form
+withCounts f c n e l = withHeader f (record { classes = c; nodes = n; edges = e; length = l })
 
 -- the form with one place filled
 abbrev pub withClass : Form → ℕ → Class → Form
-withClass f i k = record {
-  classes = f .classes;
-  nodes = f .nodes;
-  edges = f .edges;
-  length = f .length;
-  class = set (f .class) i k;
-  node = f .node;
-  from = f .from;
-  to = f .to;
-  delays = f .delays;
-  start = f .start;
-  retiming = f .retiming;
-}
+withClass f i k = withClasses f (set (f .class) i k)
 
 abbrev pub withNode : Form → ℕ → Node → Form
-withNode f v k = record {
-  classes = f .classes;
-  nodes = f .nodes;
-  edges = f .edges;
-  length = f .length;
-  class = f .class;
-  node = set (f .node) v k;
-  from = f .from;
-  to = f .to;
-  delays = f .delays;
-  start = f .start;
-  retiming = f .retiming;
-}
+withNode f v k = withNodes f (set (f .node) v k)
 
 abbrev pub withEdge : Form → ℕ → Edge → Form
-withEdge f e k = record {
-  classes = f .classes;
-  nodes = f .nodes;
-  edges = f .edges;
-  length = f .length;
-  class = f .class;
-  node = f .node;
-  from = set (f .from) e (k .from);
-  to = set (f .to) e (k .to);
-  delays = set (f .delays) e (k .delays);
-  start = f .start;
-  retiming = f .retiming;
-}
+withEdge f e k = withEdges f (set (f .from) e (k .from)) (set (f .to) e (k .to)) (set (f .delays) e (k .delays))
 
 abbrev pub withStart : Form → ℕ → BodyStep → ℕ → Form
-withStart f v s r = record {
-  classes = f .classes;
-  nodes = f .nodes;
-  edges = f .edges;
-  length = f .length;
-  class = f .class;
-  node = f .node;
-  from = f .from;
-  to = f .to;
-  delays = f .delays;
-  start = set (f .start) v s;
-  retiming = set (f .retiming) v r;
-}
+withStart f v s r = withStarts f (set (f .start) v s) (set (f .retiming) v r)
 
 -- the first n places as they are, the others as unused ones
 unfoldable pub firstOf {ℓ} : {A : Type ℓ} → ℕ → A → List A → List A
@@ -142,20 +144,17 @@ unfoldable pub scheduledOf : ℕ → ℕ → ℕ
 scheduledOf l n = pick (eqb l 0) 0 n
 
 abbrev pub scheduled : Form → ℕ
-scheduled f = scheduledOf (f .length) (f .nodes)
+scheduled f = scheduledOf (f .header .length) (f .header .nodes)
 
 -- the used places as they are, the others 0
 unfoldable pub used : Form → Form
 used f = record {
-  classes = f .classes;
-  nodes = f .nodes;
-  edges = f .edges;
-  length = f .length;
-  class = firstOf (f .classes) noClass (f .class);
-  node = firstOf (f .nodes) noNode (f .node);
-  from = firstOf (f .edges) 0 (f .from);
-  to = firstOf (f .edges) 0 (f .to);
-  delays = firstOf (f .edges) 0 (f .delays);
+  header = f .header;
+  class = firstOf (f .header .classes) noClass (f .class);
+  node = firstOf (f .header .nodes) noNode (f .node);
+  from = firstOf (f .header .edges) 0 (f .from);
+  to = firstOf (f .header .edges) 0 (f .to);
+  delays = firstOf (f .header .edges) 0 (f .delays);
   start = firstOf (scheduled f) noStep (f .start);
   retiming = firstOf (scheduled f) 0 (f .retiming);
 }

@@ -26,20 +26,20 @@ pub record GoodEdge (n : ℕ) (k : Edge) : Type 0 where
 -- a node starts in the body and ends in it, and its retiming is at most 63
 pub record GoodStart (f : Form) (v : ℕ) : Type 0 where
   pub begins : 1 ≤ startOf f v
-  pub ends : startOf f v + latencyOf f v ≤ f .length + 1
+  pub ends : startOf f v + latencyOf f v ≤ f .header .length + 1
   pub retiming : retimingOf f v ≤ 63
 
 -- a schedule: each node's start and retiming, the smallest retiming being 0
 pub record GoodSchedule (f : Form) : Type 0 where
-  pub starts : (v : ℕ) → v < f .nodes → GoodStart f v
-  pub least : (v : ℕ) × (v < f .nodes) × (retimingOf f v ≡ 0)
+  pub starts : (v : ℕ) → v < f .header .nodes → GoodStart f v
+  pub least : (v : ℕ) × (v < f .header .nodes) × (retimingOf f v ≡ 0)
 
 pub record WellFormed (f : Form) : Type 0 where
-  pub classes : Within 1 4 (f .classes)
-  pub nodes : Within 1 64 (f .nodes)
-  pub edges : f .edges ≤ 256
-  pub length : f .length ≤ 512
-  pub class : (i : ℕ) → i < f .classes → GoodClass (classOf f i)
-  pub node : (v : ℕ) → v < f .nodes → nodeOf f v .class < f .classes
-  pub edge : (e : ℕ) → e < f .edges → GoodEdge (f .nodes) (edgeOf f e)
-  pub schedule : f .length ≢ 0 → GoodSchedule f
+  pub classes : Within 1 4 (f .header .classes)
+  pub nodes : Within 1 64 (f .header .nodes)
+  pub edges : f .header .edges ≤ 256
+  pub length : f .header .length ≤ 512
+  pub class : (i : ℕ) → i < f .header .classes → GoodClass (classOf f i)
+  pub node : (v : ℕ) → v < f .header .nodes → nodeOf f v .class < f .header .classes
+  pub edge : (e : ℕ) → e < f .header .edges → GoodEdge (f .header .nodes) (edgeOf f e)
+  pub schedule : f .header .length ≢ 0 → GoodSchedule f

@@ -33,13 +33,18 @@ pub struct Edge {
 // A step of the loop's body, counted from 1. Run steps and iterations are counted apart.
 pub struct BodyStep(pub u16);
 
-// A plural is a count, its singular the table that it counts: node v is `node[v]` for v below `nodes`.
-// `length` 0 means no schedule. An edge is spread over three tables of numbers, so that loops can borrow them.
-pub struct Form {
+// The counts of a record's tables, and the length of its schedule; 0 means no schedule.
+pub struct Header {
     pub classes: u8,
     pub nodes: u8,
     pub edges: u16,
     pub length: u16,
+}
+
+// A plural of the header is a count, its singular the table that it counts: node v is `node[v]` for v below `nodes`.
+// An edge is spread over three tables of numbers, so that loops can borrow them.
+pub struct Form {
+    pub header: Header,
     pub class: [Class; 4],
     pub node: [Node; 64],
     pub from: [u8; 256],
@@ -61,10 +66,12 @@ impl Form {
         ensures { λ f. ⌜ f ≡ emptyForm ⌝ }
     {
         Form {
-            classes: 0,
-            nodes: 0,
-            edges: 0,
-            length: 0,
+            header: Header {
+                classes: 0,
+                nodes: 0,
+                edges: 0,
+                length: 0,
+            },
             class: [Class {
                 latency: 0,
                 units: 0,
@@ -86,7 +93,8 @@ impl Form {
     pub fn add_class(mut self, class: Class) -> Added
         ensures { λ a. ⌜ a ≡ classAdded self class ⌝ }
     {
-        let classes = self.classes;
+        let mut header = self.header;
+        let classes = header.classes;
         if 4 <= classes {
             return Added {
                 form: self,
@@ -95,8 +103,9 @@ impl Form {
         }
         let at = classes as usize;
         self.class[at] = class;
-        self.classes = classes + 1;
-        self.length = 0; // a schedule is of the loop as it was
+        header.classes = classes + 1;
+        header.length = 0; // a schedule is of the loop as it was
+        self.header = header;
         Added {
             form: self,
             refusal: Refusal::None,
@@ -107,7 +116,8 @@ impl Form {
     pub fn add_node(mut self, node: Node) -> Added
         ensures { λ a. ⌜ a ≡ nodeAdded self node ⌝ }
     {
-        let nodes = self.nodes;
+        let mut header = self.header;
+        let nodes = header.nodes;
         if 64 <= nodes {
             return Added {
                 form: self,
@@ -116,8 +126,9 @@ impl Form {
         }
         let at = nodes as usize;
         self.node[at] = node;
-        self.nodes = nodes + 1;
-        self.length = 0;
+        header.nodes = nodes + 1;
+        header.length = 0;
+        self.header = header;
         Added {
             form: self,
             refusal: Refusal::None,
@@ -128,7 +139,8 @@ impl Form {
     pub fn add_edge(mut self, edge: Edge) -> Added
         ensures { λ a. ⌜ a ≡ edgeAdded self edge ⌝ }
     {
-        let edges = self.edges;
+        let mut header = self.header;
+        let edges = header.edges;
         if 256 <= edges {
             return Added {
                 form: self,
@@ -139,8 +151,9 @@ impl Form {
         self.from[at] = edge.from;
         self.to[at] = edge.to;
         self.delays[at] = edge.delays;
-        self.edges = edges + 1;
-        self.length = 0;
+        header.edges = edges + 1;
+        header.length = 0;
+        self.header = header;
         Added {
             form: self,
             refusal: Refusal::None,

@@ -57,21 +57,21 @@ module _ (f : Form) (j : Judged) where
       let plain′ = subst Plain (sym e) plain in
       record { refusal = e ∙ is; handed = handed-none (loopOf f) (pairOf f) _ _ (plain′ .unknotted) (plain′ .fitting) z }
 
-  pub judged-bare : f .length ≡ 0 → j .refusal ≡ Bare → j .cycle ≡ noCycle → Judgement f j
+  pub judged-bare : f .header .length ≡ 0 → j .refusal ≡ Bare → j .cycle ≡ noCycle → Judgement f j
   unfolding judgeOf
-  judged-bare l e z = judged-alone Bare (record { unknotted = omega arith; fitting = omega arith }) e z (sym (pick-true (eqb (f .length) 0) _ _ (eq-eqb _ _ l)))
+  judged-bare l e z = judged-alone Bare (record { unknotted = omega arith; fitting = omega arith }) e z (sym (pick-true (eqb (f .header .length) 0) _ _ (eq-eqb _ _ l)))
 
-  module _ (some : f .length ≢ 0) (c : Cycle) (found : KnotFound (loopOf f) c) where
+  module _ (some : f .header .length ≢ 0) (c : Cycle) (found : KnotFound (loopOf f) c) where
     pub judged-rules : c .count ≤ 0 → (r : Refusal) → r ≡ rulesOf (loopOf f) (pairOf f) → j .refusal ≡ r → j .cycle ≡ noCycle → Judgement f j
     unfolding judgeOf
     judged-rules l r is e z =
         judged-alone r (subst Plain (sym is) (rules-plain (loopOf f) (pairOf f))) e z
-        (is ∙ sym (pick-false (eqb (f .length) 0) _ _ (ne-eqb _ _ some) ∙ pick-false (knotted (loopOf f)) _ _ (found .free (omega arith))))
+        (is ∙ sym (pick-false (eqb (f .header .length) 0) _ _ (ne-eqb _ _ some) ∙ pick-false (knotted (loopOf f)) _ _ (found .free (omega arith))))
 
-pub judged-knot : (f : Form) → f .length ≢ 0 → (c : Cycle) → KnotFound (loopOf f) c → 0 < c .count → Judgement f (record { refusal = Knot; cycle = c })
+pub judged-knot : (f : Form) → f .header .length ≢ 0 → (c : Cycle) → KnotFound (loopOf f) c → 0 < c .count → Judgement f (record { refusal = Knot; cycle = c })
 unfolding judgeOf
 judged-knot f some c found l = record {
-  refusal = sym (pick-false (eqb (f .length) 0) _ _ (ne-eqb _ _ some) ∙ pick-true (knotted (loopOf f)) _ _ (found .tied l));
+  refusal = sym (pick-false (eqb (f .header .length) 0) _ _ (ne-eqb _ _ some) ∙ pick-true (knotted (loopOf f)) _ _ (found .tied l));
   handed = handed-knot (loopOf f) (pairOf f) c (found .knot l) (found .tallies);
 }
 

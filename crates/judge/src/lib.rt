@@ -64,7 +64,7 @@ pub fn judge(record: &[u8]) -> Judged
     }
     let times = tables::times_of(read.form);
     judge_tables(
-        read.form.edges,
+        read.form.header.edges,
         &read.form.from,
         &read.form.to,
         &read.form.delays,

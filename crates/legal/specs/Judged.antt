@@ -59,7 +59,7 @@ module _ (f : Form) (w : WellFormed f) where
   pub judged : Judged (loopOf f) (pairOf f) (judgeOf f)
   unfolding judgeOf pairOf
   judged =
-      pick-ind (Judged (loopOf f) (pairOf f)) (eqb (f .length) 0) Bare (pick (knotted (loopOf f)) Knotted (rulesOf (loopOf f) (pairOf f)))
+      pick-ind (Judged (loopOf f) (pairOf f)) (eqb (f .header .length) 0) Bare (pick (knotted (loopOf f)) Knotted (rulesOf (loopOf f) (pairOf f)))
       (λ z. bare (eqb-true _ _ z))
       (λ n. pick-ind (Judged (loopOf f) (pairOf f)) (knotted (loopOf f)) Knotted (rulesOf (loopOf f) (pairOf f))
       (λ q. let k = knotted-knot (loopOf f) (sound-form f w) q in knot (eqb-false _ _ n) (k .0) (k .1))
@@ -79,48 +79,48 @@ module _ (f : Form) (w : WellFormed f) where
   told r q = subst (Judged (loopOf f) (pairOf f)) q judged
 
   -- Bare: the form has no schedule
-  pub judge-bare : judgeOf f ≡ Bare → f .length ≡ 0
+  pub judge-bare : judgeOf f ≡ Bare → f .header .length ≡ 0
   unfolding pairOf
   judge-bare q = told-bare (loopOf f) (pairOf f) (told Bare q)
 
   -- a form without a schedule is Bare
-  pub bare-judge : f .length ≡ 0 → judgeOf f ≡ Bare
+  pub bare-judge : f .header .length ≡ 0 → judgeOf f ≡ Bare
   unfolding pairOf
   bare-judge z = judged-is Bare (bare z)
 
   -- Knot: it has a schedule, and the loop has a knot
-  pub judge-knot : judgeOf f ≡ Knotted → (f .length ≢ 0) × ((es : List ℕ) × Knot (loopOf f) es)
+  pub judge-knot : judgeOf f ≡ Knotted → (f .header .length ≢ 0) × ((es : List ℕ) × Knot (loopOf f) es)
   unfolding pairOf
   judge-knot q = told-knot (loopOf f) (pairOf f) (told Knotted q)
 
   -- a schedule of a loop with a knot is refused with Knot
-  pub knot-judge : f .length ≢ 0 → (es : List ℕ) → Knot (loopOf f) es → judgeOf f ≡ Knotted
+  pub knot-judge : f .header .length ≢ 0 → (es : List ℕ) → Knot (loopOf f) es → judgeOf f ≡ Knotted
   unfolding pairOf
   knot-judge n es k = judged-is Knotted (knot n es k)
 
   -- Dependence: no knot, and edge e is the lowest that breaks the edge rule
-  pub judge-dependence : (e : ℕ) → judgeOf f ≡ Dependence e → (f .length ≢ 0) × Free (loopOf f) × LowestEdge (loopOf f) (pairOf f) e
+  pub judge-dependence : (e : ℕ) → judgeOf f ≡ Dependence e → (f .header .length ≢ 0) × Free (loopOf f) × LowestEdge (loopOf f) (pairOf f) e
   unfolding pairOf
   judge-dependence e q = told-dependence (loopOf f) (pairOf f) e (told (Dependence e) q)
 
   -- the lowest edge that breaks the edge rule is refused where there is no knot
-  pub dependence-judge : (e : ℕ) → f .length ≢ 0 → Free (loopOf f) → LowestEdge (loopOf f) (pairOf f) e → judgeOf f ≡ Dependence e
+  pub dependence-judge : (e : ℕ) → f .header .length ≢ 0 → Free (loopOf f) → LowestEdge (loopOf f) (pairOf f) e → judgeOf f ≡ Dependence e
   unfolding pairOf
   dependence-judge e n free t = judged-is (Dependence e) (rules (Dependence e) n free (dependence e t))
 
   -- Units: no knot, all edges keep the edge rule, and step q and class c are the lowest over the units
   pub judge-units : (q c : ℕ) → judgeOf f ≡ Units q c
-      → (f .length ≢ 0) × Free (loopOf f) × EdgeRules (loopOf f) (pairOf f) × LowestOver (loopOf f) (pairOf f) q c
+      → (f .header .length ≢ 0) × Free (loopOf f) × EdgeRules (loopOf f) (pairOf f) × LowestOver (loopOf f) (pairOf f) q c
   unfolding pairOf
   judge-units q c t = told-units (loopOf f) (pairOf f) q c (told (Units q c) t)
 
   -- the lowest step and class over the units are refused where there is no knot and the edge rule is kept
-  pub units-judge : (q c : ℕ) → f .length ≢ 0 → Free (loopOf f) → EdgeRules (loopOf f) (pairOf f) → LowestOver (loopOf f) (pairOf f) q c → judgeOf f ≡ Units q c
+  pub units-judge : (q c : ℕ) → f .header .length ≢ 0 → Free (loopOf f) → EdgeRules (loopOf f) (pairOf f) → LowestOver (loopOf f) (pairOf f) q c → judgeOf f ≡ Units q c
   unfolding pairOf
   units-judge q c n free h t = judged-is (Units q c) (rules (Units q c) n free (units h q c t))
 
   -- what the judge accepts is a schedule whose pair is legal
-  pub judge-accepts : judgeOf f ≡ None → (f .length ≢ 0) × Legal (loopOf f) (pairOf f)
+  pub judge-accepts : judgeOf f ≡ None → (f .header .length ≢ 0) × Legal (loopOf f) (pairOf f)
   unfolding pairOf
   judge-accepts q =
       let t = told-none (loopOf f) (pairOf f) (told None q) in
@@ -128,7 +128,7 @@ module _ (f : Form) (w : WellFormed f) where
       (t .0, record { steps = s .steps; body = s .body; retimings = s .retimings; least = s .least; edges = t .1; units = t .2 })
 
   -- a legal pair is accepted
-  pub accepts-judge : f .length ≢ 0 → Legal (loopOf f) (pairOf f) → judgeOf f ≡ None
+  pub accepts-judge : f .header .length ≢ 0 → Legal (loopOf f) (pairOf f) → judgeOf f ≡ None
   unfolding pairOf
   accepts-judge n legal =
       judged-is None (rules None n (legal-free (loopOf f) (pairOf f) (sound-form f w) legal) (kept (legal .edges) (legal .units)))

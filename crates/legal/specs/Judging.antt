@@ -45,4 +45,4 @@ module _ (g : Loop) (p : Pair) where
 
 unfoldable pub judgeOf : Form → Refusal
 judgeOf f =
-    pick (eqb (f .length) 0) Bare (pick (knotted (loopOf f)) Knot (rulesOf (loopOf f) (pairOf f)))
+    pick (eqb (f .header .length) 0) Bare (pick (knotted (loopOf f)) Knot (rulesOf (loopOf f) (pairOf f)))

@@ -47,8 +47,8 @@ latency g v = g .class (runsOn g v) .latency
 
 unfoldable pub graphOf : Form → Graph
 graphOf f = record {
-  nodes = f .nodes;
-  edges = f .edges;
+  nodes = f .header .nodes;
+  edges = f .header .edges;
   tail = λ e. getD (f .from) e 0;
   head = λ e. getD (f .to) e 0;
 }
@@ -57,10 +57,10 @@ unfoldable pub loopOf : Form → Loop
 loopOf f = record {
   graph = graphOf f;
   delay = λ e. getD (f .delays) e 0;
-  classes = f .classes;
+  classes = f .header .classes;
   class = classOf f;
   node = nodeOf f;
 }
 
 unfoldable pub pairOf : Form → Pair
-pairOf f = record { kind = plain; start = startOf f; length = f .length; retiming = retimingOf f }
+pairOf f = record { kind = plain; start = startOf f; length = f .header .length; retiming = retimingOf f }

@@ -75,7 +75,7 @@ sound-form f w = record {
 }
 
 -- and, where it has a schedule, starts in the body and retimings of 0 to 63, the smallest being 0
-pub placed-form : (f : Form) → WellFormed f → f .length ≢ 0 → Placed (loopOf f) (pairOf f)
+pub placed-form : (f : Form) → WellFormed f → f .header .length ≢ 0 → Placed (loopOf f) (pairOf f)
 unfolding loopOf pairOf graphOf within bodies
 placed-form f w n =
     let s : GoodSchedule f = w .schedule n in
@@ -87,7 +87,7 @@ placed-form f w n =
     }
 
 -- its operations end in the body
-pub within-form : (f : Form) → WellFormed f → f .length ≢ 0 → WithinBodies (loopOf f) (pairOf f) 1
+pub within-form : (f : Form) → WellFormed f → f .header .length ≢ 0 → WithinBodies (loopOf f) (pairOf f) 1
 unfolding pairOf bodies
 within-form f w n = bodied-within (loopOf f) (pairOf f) (sound-form f w) (placed-form f w n .body)
 

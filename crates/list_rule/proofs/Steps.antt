@@ -32,20 +32,20 @@ use Rattle.list_rule.proofs.Ordering.{order-same, table-below}
 
 -- the nodes in the order of the list rule
 abbrev pub orderIn : Form → List ℕ
-orderIn f = orderOf (weight (loopOf f) (retimingOf f)) (f .nodes)
+orderIn f = orderOf (weight (loopOf f) (retimingOf f)) (f .header .nodes)
 
 -- a table that holds them
 pub record Ordered (f : Form) (order : List ℕ) : Type 0 where
   pub size : length order ≡ 64
-  pub is : take (f .nodes) order ≡ orderIn f
+  pub is : take (f .header .nodes) order ≡ orderIn f
 
-pub ordered-of : (f : Form) (weights order : List ℕ) → WellFormed f → ((v : ℕ) → v < f .nodes → getD weights v 0 ≡ weight (loopOf f) (retimingOf f) v) → length order ≡ 64
-    → take (f .nodes) order ≡ orderOf (weightOf weights) (f .nodes) → Ordered f order
+pub ordered-of : (f : Form) (weights order : List ℕ) → WellFormed f → ((v : ℕ) → v < f .header .nodes → getD weights v 0 ≡ weight (loopOf f) (retimingOf f) v) → length order ≡ 64
+    → take (f .header .nodes) order ≡ orderOf (weightOf weights) (f .header .nodes) → Ordered f order
 ordered-of f weights order w e l is =
-    record { size = l; is = is ∙ order-same (weightOf weights) (weight (loopOf f) (retimingOf f)) (f .nodes) (f .nodes) (omega arith) (omega arith) e }
+    record { size = l; is = is ∙ order-same (weightOf weights) (weight (loopOf f) (retimingOf f)) (f .header .nodes) (f .header .nodes) (omega arith) (omega arith) e }
 
-pub ordered-in : (f : Form) (order : List ℕ) → WellFormed f → Ordered f order → (i : ℕ) → i < f .nodes → getD order i 0 < f .nodes
-ordered-in f order w o = table-below (weight (loopOf f) (retimingOf f)) (f .nodes) (f .nodes) order (omega arith) (omega arith) (o .is)
+pub ordered-in : (f : Form) (order : List ℕ) → WellFormed f → Ordered f order → (i : ℕ) → i < f .header .nodes → getD order i 0 < f .header .nodes
+ordered-in f order w o = table-below (weight (loopOf f) (retimingOf f)) (f .header .nodes) (f .header .nodes) order (omega arith) (omega arith) (o .is)
 
 module _ (f : Form) where
   abbrev whole : List ℕ
@@ -56,19 +56,19 @@ module _ (f : Form) where
   -- the steps before p are filled
   pub record Filling (p : ℕ) (start : List BodyStep) (busy : List ℕ) : Type 0 where
     pub size : length start ≡ 64
-    pub used : Used f (numbersOf start) (f .nodes) busy
+    pub used : Used f (numbersOf start) (f .header .nodes) busy
     pub rest : fillFrom (loopOf f) (retimingOf f) (orderIn f) (1024 - p) p (numbersOf start) ≡ whole
 
-  pub filling-none : (busy : List ℕ) → length (f .start) ≡ 64 → Used f (startsOf f) (f .nodes) busy → Filling 1 (f .start) busy
+  pub filling-none : (busy : List ℕ) → length (f .start) ≡ 64 → Used f (startsOf f) (f .header .nodes) busy → Filling 1 (f .start) busy
   unfolding listRule loopOf graphOf startsOf
   filling-none busy l u = record { size = l; used = u; rest = refl }
 
   -- the nodes in the order before place i are tried in step p
   pub record Trying (order : List ℕ) (before : List BodyStep) (p i : ℕ) (start : List BodyStep) (busy : List ℕ) : Type 0 where
     pub size : length start ≡ 64
-    pub used : Used f (numbersOf start) (f .nodes) busy
+    pub used : Used f (numbersOf start) (f .header .nodes) busy
     pub rest : fillFrom (loopOf f) (retimingOf f) (orderIn f) (1024 - (p + 1)) (p + 1)
-        (fold (place (loopOf f) (retimingOf f) (numbersOf before) p) (numbersOf start) (slice i (f .nodes) order)) ≡ whole
+        (fold (place (loopOf f) (retimingOf f) (numbersOf before) p) (numbersOf start) (slice i (f .header .nodes) order)) ≡ whole
 
   module _ (p : ℕ) (start : List BodyStep) (busy : List ℕ) (s : Filling p start busy) where
     pub filling-end : 1024 ≤ p → numbersOf start ≡ whole
@@ -77,7 +77,7 @@ module _ (f : Form) where
         let e : 1024 - p ≡ 0 = omega arith in
         rw e at (s .rest)
 
-    module _ (h : p < 1024) (left : ℕ) (is-left : left ≡ count (λ v. eqb (startNumber (numbersOf start) v) 0) (span 0 (f .nodes))) where
+    module _ (h : p < 1024) (left : ℕ) (is-left : left ≡ count (λ v. eqb (startNumber (numbersOf start) v) 0) (span 0 (f .header .nodes))) where
       more : 1024 - p ≡ suc (1024 - (p + 1))
       more = omega arith
 
@@ -100,13 +100,13 @@ module _ (f : Form) where
   -- ---- nodes
 
   module _ (order : List ℕ) (before : List BodyStep) (p i : ℕ) (start : List BodyStep) (busy : List ℕ) (t : Trying order before p i start busy) where
-    pub trying-end : f .nodes ≤ i → i ≤ f .nodes → Filling (p + 1) start busy
+    pub trying-end : f .header .nodes ≤ i → i ≤ f .header .nodes → Filling (p + 1) start busy
     unfolding fold
     trying-end a b =
-        let e : i ≡ f .nodes = omega arith in
+        let e : i ≡ f .header .nodes = omega arith in
         record { size = t .size; used = t .used; rest = rw (e, slice-empty) at (t .rest) }
 
-    module _ (o : Ordered f order) (w : WellFormed f) (i-in : i < f .nodes) where
+    module _ (o : Ordered f order) (w : WellFormed f) (i-in : i < f .header .nodes) where
       abbrev node : ℕ
       node = getD order i 0
 
@@ -114,9 +114,9 @@ module _ (f : Form) where
       after = place (loopOf f) (retimingOf f) (numbersOf before) p (numbersOf start) node
 
       turn : fillFrom (loopOf f) (retimingOf f) (orderIn f) (1024 - (p + 1)) (p + 1)
-          (fold (place (loopOf f) (retimingOf f) (numbersOf before) p) after (slice (i + 1) (f .nodes) order)) ≡ whole
+          (fold (place (loopOf f) (retimingOf f) (numbersOf before) p) after (slice (i + 1) (f .header .nodes) order)) ≡ whole
       unfolding fold
-      turn = rw (add-one i) (rw (slice-cons i (f .nodes) order 0 i-in (omega (arith, o .size, w .nodes .1))) at (t .rest))
+      turn = rw (add-one i) (rw (slice-cons i (f .header .nodes) order 0 i-in (omega (arith, o .size, w .nodes .1))) at (t .rest))
 
       trying-past : after ≡ numbersOf start → Trying order before p (i + 1) start busy
       trying-past e = record { size = t .size; used = t .used; rest = rw e at turn }
@@ -127,7 +127,7 @@ module _ (f : Form) where
       trying-placed h = trying-past (rw (ne-eqb (startNumber (numbersOf start) node) 0 (rw number-at h)))
 
       module _ (times : Timetable) (timed : times ≡ timesOf f) (waits : List ℕ)
-          (marks : WaitsTabled (f .from) (f .to) (f .delays) (f .retiming) (times .latency) (numbersOf before) p (f .edges) waits) where
+          (marks : WaitsTabled (f .from) (f .to) (f .delays) (f .retiming) (times .latency) (numbersOf before) p (f .header .edges) waits) where
         is-ready : ready (loopOf f) (retimingOf f) (numbersOf before) p node ≡ eqb (getD waits node 0) 0
         is-ready = ready-is f w times timed (numbersOf before) p waits marks node (omega (arith, ordered-in f order w o i i-in))
 
@@ -181,7 +181,7 @@ module _ (f : Form) (s : List ℕ) (v p : ℕ) where
       let d : past - q ≡ 0 = omega arith in
       is-free ∙ eq-eqb (full p held) 0 (sym (rw d at (t .is)))
 
-  module _ (busy : List ℕ) (u : Used f s (f .nodes) busy) (k-in : classAt f v < 4) (past q : ℕ) (t : Searching past q) (h : q < past) (q-in : q < 1032)
+  module _ (busy : List ℕ) (u : Used f s (f .header .nodes) busy) (k-in : classAt f v < 4) (past q : ℕ) (t : Searching past q) (h : q < past) (q-in : q < 1032)
       (spot : ℕ) (is-spot : spot ≡ q * 4 + classAt f v) where
     in-use : inUse (loopOf f) s (classAt f v) q ≡ getD busy spot 0
     unfolding inUse loopOf graphOf

@@ -132,11 +132,11 @@ module _ (f : Form) (s : List ℕ) where
   used-fits n busy h u c q a b = omega (arith, u .at c q a b, count-within (uses (loopOf f) s c q) n)
 
 -- a node placed at p uses what it holds, and the others what they used
-pub used-put : (f : Form) (s : List ℕ) (v p held : ℕ) (busy after : List ℕ) → v < f .nodes → v < length s → startNumber s v ≡ 0 → held ≡ hold (classOf f (classAt f v))
-    → Used f s (f .nodes) busy → Raised busy p (classAt f v) (p + held) after → Used f (set s v p) (f .nodes) after
+pub used-put : (f : Form) (s : List ℕ) (v p held : ℕ) (busy after : List ℕ) → v < f .header .nodes → v < length s → startNumber s v ≡ 0 → held ≡ hold (classOf f (classAt f v))
+    → Used f s (f .header .nodes) busy → Raised busy p (classAt f v) (p + held) after → Used f (set s v p) (f .header .nodes) after
 used-put f s v p held busy after v-in v-len none is-held u r = record {
   size = r .size;
-  at = λ c q a b. r .at c q a b ∙ rw (u .at c q a b) (sym (count-change (uses (loopOf f) s c q) (uses (loopOf f) (set s v p) c q) (f .nodes) v v-in (others c q) (before c q) ∙ rw (new c q)));
+  at = λ c q a b. r .at c q a b ∙ rw (u .at c q a b) (sym (count-change (uses (loopOf f) s c q) (uses (loopOf f) (set s v p) c q) (f .header .nodes) v v-in (others c q) (before c q) ∙ rw (new c q)));
 }
   where
     others : (c q u : ℕ) → u ≢ v → uses (loopOf f) (set s v p) c q u ≡ uses (loopOf f) s c q u
@@ -153,7 +153,7 @@ pub record Board (f : Form) (v : ℕ) : Type 0 where
   pub class-in : classAt f v < 4
   pub hold-in : hold (classOf f (classAt f v)) ≤ 8
 
-pub board-of : (f : Form) → WellFormed f → (v : ℕ) → v < f .nodes → Board f v
+pub board-of : (f : Form) → WellFormed f → (v : ℕ) → v < f .header .nodes → Board f v
 unfolding hold
 board-of f w v h =
     let l = w .node v h in

@@ -80,7 +80,7 @@ module _ (from to delays retiming latency : List ℕ) (steps : List BodyStep) (p
 
 -- what a form lends
 module _ (f : Form) (w : WellFormed f) where
-  pub edges-in : Ends 64 (f .edges) (f .from) (f .to)
+  pub edges-in : Ends 64 (f .header .edges) (f .from) (f .to)
   edges-in =
       let e = ends-form f w in
       record {
@@ -92,18 +92,18 @@ module _ (f : Form) (w : WellFormed f) where
       }
 
   module _ (t : Timetable) (is : t ≡ timesOf f) where
-    takes : (v : ℕ) → v < f .nodes → getD (t .latency) v 0 ≡ latencyOf f v
+    takes : (v : ℕ) → v < f .header .nodes → getD (t .latency) v 0 ≡ latencyOf f v
     unfolding timesOf
-    takes v l = rw is (filled-at 64 (latencyOf f) (f .nodes) v l)
+    takes v l = rw is (filled-at 64 (latencyOf f) (f .header .nodes) v l)
 
     module _ (s : List ℕ) (p : ℕ) where
-      blocks-in : (e : ℕ) → e < f .edges → blocks (loopOf f) (retimingOf f) s p e ≡ blocksIn (f .from) (f .to) (f .delays) (f .retiming) (t .latency) s p e
+      blocks-in : (e : ℕ) → e < f .header .edges → blocks (loopOf f) (retimingOf f) s p e ≡ blocksIn (f .from) (f .to) (f .delays) (f .retiming) (t .latency) s p e
       unfolding blocks tight loopOf graphOf blocksAt
       blocks-in e l = rw (takes (getD (f .from) e 0) (w .edge e l .from))
 
       -- a node that no edge keeps is ready
-      pub ready-is : (waits : List ℕ) → WaitsTabled (f .from) (f .to) (f .delays) (f .retiming) (t .latency) s p (f .edges) waits → (v : ℕ) → v < 64
+      pub ready-is : (waits : List ℕ) → WaitsTabled (f .from) (f .to) (f .delays) (f .retiming) (t .latency) s p (f .header .edges) waits → (v : ℕ) → v < 64
           → ready (loopOf f) (retimingOf f) s p v ≡ eqb (getD waits v 0) 0
       unfolding ready waitsFor loopOf graphOf
       ready-is waits marks v l =
-          ap (λ n. eqb n 0) (count-same (λ e. eqb (getD (f .to) e 0) v && blocks (loopOf f) (retimingOf f) s p e) (λ e. eqb (getD (f .to) e 0) v && blocksIn (f .from) (f .to) (f .delays) (f .retiming) (t .latency) s p e) (f .edges) (λ e h. ap (λ b. eqb (getD (f .to) e 0) v && b) (blocks-in e h)) ∙ sym (marks .at v l))
+          ap (λ n. eqb n 0) (count-same (λ e. eqb (getD (f .to) e 0) v && blocks (loopOf f) (retimingOf f) s p e) (λ e. eqb (getD (f .to) e 0) v && blocksIn (f .from) (f .to) (f .delays) (f .retiming) (t .latency) s p e) (f .header .edges) (λ e h. ap (λ b. eqb (getD (f .to) e 0) v && b) (blocks-in e h)) ∙ sym (marks .at v l))

@@ -29,7 +29,7 @@ weightOf weight v = getD weight v 0
 
 -- a node that is placed before the list rule ends in the longest body; with start 0 it does in any case
 pub record EndsInBody (f : Form) : Type 0 where
-  pub at : (v : ℕ) → v < f .nodes → startOf f v + latencyOf f v ≤ 513
+  pub at : (v : ℕ) → v < f .header .nodes → startOf f v + latencyOf f v ≤ 513
 
 -- ---- units in use: step q and class c have the place q * 4 + c
 

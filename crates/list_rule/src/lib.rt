@@ -102,10 +102,10 @@ fn raise(busy: &mut [u8; 4128], begins: u16, class: u8, hold: u16)
 // The units in use by the starts of the form.
 fn busy_of(form: Form) -> [u8; 4128]
     requires { ⌜ WellFormed form × EndsInBody form ⌝ }
-    ensures { λ r. ⌜ Used form (startsOf form) (form .nodes) r ⌝ }
+    ensures { λ r. ⌜ Used form (startsOf form) (form .header .nodes) r ⌝ }
 {
     let mut busy = idle();
-    for v in 0..form.nodes {
+    for v in 0..form.header.nodes {
         let i = v as usize;
         let number = form.node[i].class;
         let class = form.class[number as usize];
@@ -178,10 +178,10 @@ fn waiting<'a>(
 // Starts that are not 0 stay; the other nodes are placed.
 pub fn list_rule(form: Form, weight: [u8; 64]) -> [BodyStep; 64]
     requires { ⌜ WellFormed form × EndsInBody form ⌝ }
-    requires { ⌜ ((v : ℕ) → v < form .nodes → getD weight v 0 ≡ weightIn (loopOf form) (retimingOf form) v) ⌝ }
+    requires { ⌜ ((v : ℕ) → v < form .header .nodes → getD weight v 0 ≡ weightIn (loopOf form) (retimingOf form) v) ⌝ }
     ensures { λ r. ⌜ numbersOf r ≡ listRule (loopOf form) (retimingOf form) (startsOf form) ⌝ }
 {
-    let nodes = form.nodes;
+    let nodes = form.header.nodes;
     let order = order_of(nodes, weight);
     let mut start = form.start;
     let mut busy = busy_of(form);
@@ -191,7 +191,7 @@ pub fn list_rule(form: Form, weight: [u8; 64]) -> [BodyStep; 64]
             break 'steps;
         }
         let waits = waiting(
-            form.edges,
+            form.header.edges,
             &form.from,
             &form.to,
             &form.delays,

@@ -114,23 +114,23 @@ line-same a b retiming nodes q h =
     ap (λ (text : List ℕ). decimal q ++ (58 ∷ (orIdle text ++ newline))) (rows-same _ _ nodes (λ v l. rw (h v l)))
 
 module _ (f : Form) (t : Timetable) (floor : ℕ) (is : t ≡ timesOf f) (shown : Shown f floor) where
-  lines-same : rows (λ i. stepLine (cell (t .start)) (cell (t .retiming)) (f .nodes) (i + 1)) (f .length) ≡ rows (λ i. stepLine (startOf f) (retimingOf f) (f .nodes) (i + 1)) (f .length)
+  lines-same : rows (λ i. stepLine (cell (t .start)) (cell (t .retiming)) (f .header .nodes) (i + 1)) (f .header .length) ≡ rows (λ i. stepLine (startOf f) (retimingOf f) (f .header .nodes) (i + 1)) (f .header .length)
   unfolding timesOf
   lines-same =
       rw is
-      (rows-same _ _ (f .length) (λ i _. line-same (cell (filled 64 (startOf f) (f .nodes))) (startOf f) (retimingOf f) (f .nodes) (i + 1) (filled-at 64 (startOf f) (f .nodes))))
+      (rows-same _ _ (f .header .length) (λ i _. line-same (cell (filled 64 (startOf f) (f .header .nodes))) (startOf f) (retimingOf f) (f .header .nodes) (i + 1) (filled-at 64 (startOf f) (f .header .nodes))))
 
-  depth-same : mostOf (t .retiming) (f .nodes) ≡ depthOf (retimingOf f) (f .nodes)
+  depth-same : mostOf (t .retiming) (f .header .nodes) ≡ depthOf (retimingOf f) (f .header .nodes)
   unfolding timesOf mostOf depthOf
   depth-same = rw is
 
-  pub lines-put : (depth : ℕ) → depth ≡ mostOf (t .retiming) (f .nodes) → (l m o p : List ℕ) (e g h : ℕ)
-      → Laid l 0 markLine m e → Laid m e (countsLine (f .nodes) (f .edges) (f .length) depth floor) o g
-      → Laid o g (rows (λ i. stepLine (cell (t .start)) (cell (t .retiming)) (f .nodes) (i + 1)) (f .length)) p h → Laid l 0 (formLines f) p h
+  pub lines-put : (depth : ℕ) → depth ≡ mostOf (t .retiming) (f .header .nodes) → (l m o p : List ℕ) (e g h : ℕ)
+      → Laid l 0 markLine m e → Laid m e (countsLine (f .header .nodes) (f .header .edges) (f .header .length) depth floor) o g
+      → Laid o g (rows (λ i. stepLine (cell (t .start)) (cell (t .retiming)) (f .header .nodes) (i + 1)) (f .header .length)) p h → Laid l 0 (formLines f) p h
   unfolding formLines
   lines-put depth d l m o p e g h x y z =
       rw (lines-same, d ∙ depth-same, shown .is) at
-      (both l 0 markLine _ m p e h x (both m e (countsLine (f .nodes) (f .edges) (f .length) depth floor) _ o p g h y z))
+      (both l 0 markLine _ m p e h x (both m e (countsLine (f .header .nodes) (f .header .edges) (f .header .length) depth floor) _ o p g h y z))
 
 -- ---- the whole listing
 

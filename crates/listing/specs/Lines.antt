@@ -61,8 +61,8 @@ module _ (start retiming : ℕ → ℕ) where
 
 unfoldable pub formLines : Form → List ℕ
 formLines f =
-    markLine ++ (countsLine (f .nodes) (f .edges) (f .length) (depthOf (retimingOf f) (f .nodes)) (floorLength (loopOf f))
-    ++ rows (λ i. stepLine (startOf f) (retimingOf f) (f .nodes) (i + 1)) (f .length))
+    markLine ++ (countsLine (f .header .nodes) (f .header .edges) (f .header .length) (depthOf (retimingOf f) (f .header .nodes)) (floorLength (loopOf f))
+    ++ rows (λ i. stepLine (startOf f) (retimingOf f) (f .header .nodes) (i + 1)) (f .header .length))
 
 -- what the judge refuses, reading included, is one line
 unfoldable pub refusedLine : Refusal → List ℕ

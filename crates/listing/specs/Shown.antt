@@ -21,10 +21,10 @@ use Rattle.listing.specs.Lines.{formLines}
 -- a form that the judge accepts and its floor: every number shown is below 1000
 pub record Shown (f : Form) (floor : ℕ) : Type 0 where
   pub good : WellFormed f
-  pub nodes : f .nodes ≤ 64
-  pub edges : f .edges ≤ 256
-  pub length : f .length ≤ 512
-  pub near : floor ≤ f .length
+  pub nodes : f .header .nodes ≤ 64
+  pub edges : f .header .edges ≤ 256
+  pub length : f .header .length ≤ 512
+  pub near : floor ≤ f .header .length
   pub is : floor ≡ floorLength (loopOf f)
 
 -- the first three fields of the counts

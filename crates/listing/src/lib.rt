@@ -157,22 +157,22 @@ fn put_form(out: &mut [u8], form: Form, floor: u32) -> usize
     ensures { λ r. ⌜ (r ≤ 1000000) × Laid (now (out .entry)) 0 (formLines form) (now (out .exit)) r ⌝ }
 {
     let times = tables::times_of(form);
-    let depth = tables::largest(&times.retiming, form.nodes);
+    let depth = tables::largest(&times.retiming, form.header.nodes);
     let counts = put_word(out, 0, b"RSK 1\n");
     let lines = put_counts(
         out,
         counts,
-        form.nodes,
-        form.edges,
-        form.length,
+        form.header.nodes,
+        form.header.edges,
+        form.header.length,
         depth,
         floor,
     );
     put_lines(
         out,
         lines,
-        form.length,
-        form.nodes,
+        form.header.length,
+        form.header.nodes,
         &times.start,
         &times.retiming,
     )
@@ -222,12 +222,12 @@ fn view_of(record: &[u8]) -> View
         return refused(refusal, form);
     }
     let times = tables::times_of(form);
-    let judged = judge::judge_tables(form.edges, &form.from, &form.to, &form.delays, times);
+    let judged = judge::judge_tables(form.header.edges, &form.from, &form.to, &form.delays, times);
     let judgement = judged.refusal;
     if !judgement.is_fine() {
         return refused(judgement, form);
     }
-    let floored = floor::floor_tables(form.edges, &form.from, &form.to, &form.delays, times);
+    let floored = floor::floor_tables(form.header.edges, &form.from, &form.to, &form.delays, times);
     View {
         number: 0,
         form,

@@ -34,7 +34,7 @@ module _ (f : Form) (w : WellFormed f) (starts : List ℕ) (k : ℕ) (values fin
   accepted-values q = accepted-plain (loopOf f) (pairOf f) (sound-form f w) (classed-form f w) (judge-accepts f w q .1) starts k values finish room room′
 
   -- a schedule that the judge refuses is stuck from depth + 1 iterations on
-  pub refused-stuck : f .length ≢ 0 → judgeOf f ≢ None → depth (loopOf f) (pairOf f) + 1 ≤ k → runOf (loopOf f) (pairOf f) starts k values finish .refusal ≢ None
+  pub refused-stuck : f .header .length ≢ 0 → judgeOf f ≢ None → depth (loopOf f) (pairOf f) + 1 ≤ k → runOf (loopOf f) (pairOf f) starts k values finish .refusal ≢ None
   unfolding pairOf bodies
   refused-stuck n no-judge deep goes-on =
       no-judge (accepts-judge f w n

@@ -13,14 +13,14 @@ use Rattle.operands.specs.Tables.{TailsLinked, Tells, Follows}
 
 -- the form's edges linked
 abbrev pub LinksOf : Form → List ℕ → List ℕ → Type 0
-LinksOf f first next = Chains (λ e. getD (f .to) e 0) (f .edges) first next
+LinksOf f first next = Chains (λ e. getD (f .to) e 0) (f .header .edges) first next
 
-pub form-tells : (f : Form) → Tells (loopOf f) (f .nodes) (f .edges) (f .from) (f .delays)
+pub form-tells : (f : Form) → Tells (loopOf f) (f .header .nodes) (f .header .edges) (f .from) (f .delays)
 unfolding loopOf graphOf
 form-tells f = record { all-nodes = refl; all-edges = refl; is-tail = λ e l. refl; is-delay = λ e l. refl }
 
 module _ (f : Form) (first next : List ℕ) (k : LinksOf f first next) where
-  pub links-fit : WellFormed f → TailsLinked (f .nodes) (f .edges) (f .from) (f .delays) next
+  pub links-fit : WellFormed f → TailsLinked (f .header .nodes) (f .header .edges) (f .from) (f .delays) next
   links-fit w = record {
     few = w .edges;
     tail-in = λ e l. w .edge e l .from;
@@ -29,7 +29,7 @@ module _ (f : Form) (first next : List ℕ) (k : LinksOf f first next) where
     leads-in = leads-in _ _ _ _ k;
   }
 
-  pub links-begin : (v : ℕ) → v < 64 → getD first v 0 ≤ f .edges
+  pub links-begin : (v : ℕ) → v < 64 → getD first v 0 ≤ f .header .edges
   links-begin v l = begins-in _ _ _ _ k v l
 
   pub links-follow : (v : ℕ) → v < 64 → Follows (loopOf f) v (nodeOf f v .operation) (getD first v 0) next

@@ -69,15 +69,15 @@ module _ (f : Form) (k : ℕ) (starts before : List ℕ) where
     untouched = λ q. refl;
   }
 
-  module _ (c : Cycle) (found : KnotFound (loopOf f) c) (free : c .count ≤ 0) (q : Refusal) (is : q ≡ roomOf (f .nodes) k (length starts) (length before)) (r : Looped) (none : r .cycle ≡ noCycle) where
+  module _ (c : Cycle) (found : KnotFound (loopOf f) c) (free : c .count ≤ 0) (q : Refusal) (is : q ≡ roomOf (f .header .nodes) k (length starts) (length before)) (r : Looped) (none : r .cycle ≡ noCycle) where
     room-answer : r .refusal ≡ q → r .refusal ≡ plainOf (loopOf f) k (length starts) (length before)
     unfolding plainOf loopOf graphOf
     room-answer e = e ∙ is ∙ sym (pick-false (knotted (loopOf f)) _ _ (found .free (omega arith)))
 
     room-handed : r .refusal ≡ q → Handed (loopOf f) (pairOf f) (r .refusal) (r .cycle)
     room-handed e =
-        let t = roomy (f .nodes) k (length starts) (length before) in
-        let same : r .refusal ≡ roomOf (f .nodes) k (length starts) (length before) = e ∙ is in
+        let t = roomy (f .header .nodes) k (length starts) (length before) in
+        let same : r .refusal ≡ roomOf (f .header .nodes) k (length starts) (length before) = e ∙ is in
         handed-none _ _ _ _ (λ n. t .unknotted (sym (ap numberOf same) ∙ n)) (λ n. t .fitting (sym (ap numberOf same) ∙ n)) none
 
     pub looped-refused : fine q ≡ false → r .refusal ≡ q → FormLooped f k starts before before r
@@ -90,15 +90,15 @@ module _ (f : Form) (k : ℕ) (starts before : List ℕ) where
 
     pub looped-done : WellFormed f → (rank : List ℕ) → Ranks (loopOf f) (λ v. getD rank v 0)
         → fine q ≡ true → r .refusal ≡ None
-        → (order : List ℕ) → take (f .nodes) order ≡ ascending rank (f .nodes)
-        → (after : List ℕ) → after ≡ looped (loopOf f) starts (take (f .nodes) order) k before → FormLooped f k starts before after r
+        → (order : List ℕ) → take (f .header .nodes) order ≡ ascending rank (f .header .nodes)
+        → (after : List ℕ) → after ≡ looped (loopOf f) starts (take (f .header .nodes) order) k before → FormLooped f k starts before after r
     unfolding fine loopOf graphOf
     looped-done w rank rises good e order in-order after ran =
-        let t = roomy (f .nodes) k (length starts) (length before) in
-        let fits = room-for (f .nodes) k (length starts) (length before) q is good in
+        let t = roomy (f .header .nodes) k (length starts) (length before) in
+        let fits = room-for (f .header .nodes) k (length starts) (length before) q is good in
         let ok : r .refusal ≡ q = e ∙ sym (t .none (sym (ap fine is) ∙ good)) ∙ sym is in
         let sorts = ascending-sorts (loopOf f) rank rises in
-        let is-after : after ≡ looped (loopOf f) starts (ascending rank (f .nodes)) k before = ran ∙ ap (λ us. looped (loopOf f) starts us k before) in-order in
+        let is-after : after ≡ looped (loopOf f) starts (ascending rank (f .header .nodes)) k before = ran ∙ ap (λ us. looped (loopOf f) starts us k before) in-order in
         record {
           refusal = room-answer ok;
           handed = room-handed ok;

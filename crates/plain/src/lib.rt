@@ -92,12 +92,12 @@ fn after(turn: Turn, nodes: u8) -> Turn
 // One loop over all values: the form is not handed on for each iteration.
 fn iterate_all(form: Form, order: [u8; 64], iterations: u16, starts: &[u32], values: &mut [u32])
     requires { ⌜ WellFormed form ⌝ }
-    requires { ⌜ (length order ≡ 64) × ((k : ℕ) → k < form .nodes → getD order k 0 < form .nodes) ⌝ }
-    requires { ⌜ (15 * form .nodes ≤ length (now starts)) × (iterations * form .nodes ≤ length (now values)) ⌝ }
-    ensures { λ _. ⌜ now (values .exit) ≡ looped (loopOf form) (now (starts .entry)) (take (form .nodes) order) iterations (now (values .entry)) ⌝ }
+    requires { ⌜ (length order ≡ 64) × ((k : ℕ) → k < form .header .nodes → getD order k 0 < form .header .nodes) ⌝ }
+    requires { ⌜ (15 * form .header .nodes ≤ length (now starts)) × (iterations * form .header .nodes ≤ length (now values)) ⌝ }
+    ensures { λ _. ⌜ now (values .exit) ≡ looped (loopOf form) (now (starts .entry)) (take (form .header .nodes) order) iterations (now (values .entry)) ⌝ }
 {
-    let links = links::links_of(&form.to, form.edges);
-    let nodes = form.nodes;
+    let links = links::links_of(&form.to, form.header.edges);
+    let nodes = form.header.nodes;
     let mut turn = Turn {
         iteration: 0,
         place: 0,
@@ -113,7 +113,7 @@ fn iterate_all(form: Form, order: [u8; 64], iterations: u16, starts: &[u32], val
             operation,
             links.first[v],
             nodes,
-            form.edges,
+            form.header.edges,
             Iteration(i),
             &form.from,
             &form.delays,
@@ -154,7 +154,13 @@ pub fn plain_form(form: Form, iterations: u16, starts: &[u32], values: &mut [u32
     requires { ⌜ WellFormed form ⌝ }
     ensures { λ r. ⌜ FormLooped form iterations (now (starts .entry)) (now (values .entry)) (now (values .exit)) r ⌝ }
 {
-    let ranking = knots::ranked(form.nodes, form.edges, &form.from, &form.to, &form.delays);
+    let ranking = knots::ranked(
+        form.header.nodes,
+        form.header.edges,
+        &form.from,
+        &form.to,
+        &form.delays,
+    );
     let cycle = ranking.cycle;
     if 0 < cycle.count {
         return Looped {
@@ -162,11 +168,11 @@ pub fn plain_form(form: Form, iterations: u16, starts: &[u32], values: &mut [u32
             cycle,
         };
     }
-    let room = room_of(form.nodes, iterations, starts.len(), values.len());
+    let room = room_of(form.header.nodes, iterations, starts.len(), values.len());
     if !room.is_fine() {
         return alone(room);
     }
-    let order = order_of(form.nodes, &ranking.rank);
+    let order = order_of(form.header.nodes, &ranking.rank);
     iterate_all(form, order, iterations, starts, values);
     alone(Refusal::None)
 }

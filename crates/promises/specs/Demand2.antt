@@ -105,49 +105,49 @@ refused-by-field = writing.written-refusals
 
 module _ (f : Form) (w : WellFormed f) where
   -- it accepts exactly the legal pairs
-  pub accepted-legal : judgeOf f ≡ None → (f .length ≢ 0) × Legal (loopOf f) (pairOf f)
+  pub accepted-legal : judgeOf f ≡ None → (f .header .length ≢ 0) × Legal (loopOf f) (pairOf f)
   accepted-legal = judging.judge-accepts f w
 
-  pub legal-accepted : f .length ≢ 0 → Legal (loopOf f) (pairOf f) → judgeOf f ≡ None
+  pub legal-accepted : f .header .length ≢ 0 → Legal (loopOf f) (pairOf f) → judgeOf f ≡ None
   legal-accepted = judging.accepts-judge f w
 
   -- Bare exactly where there is no schedule
-  pub bare-unscheduled : judgeOf f ≡ refusal.Bare → f .length ≡ 0
+  pub bare-unscheduled : judgeOf f ≡ refusal.Bare → f .header .length ≡ 0
   bare-unscheduled = judging.judge-bare f w
 
-  pub unscheduled-bare : f .length ≡ 0 → judgeOf f ≡ refusal.Bare
+  pub unscheduled-bare : f .header .length ≡ 0 → judgeOf f ≡ refusal.Bare
   unscheduled-bare = judging.bare-judge f w
 
   -- else Knot exactly where a cycle of edges has delay sum 0
-  pub refused-knot : judgeOf f ≡ refusal.Knot → (f .length ≢ 0) × ((es : List ℕ) × Knot (loopOf f) es)
+  pub refused-knot : judgeOf f ≡ refusal.Knot → (f .header .length ≢ 0) × ((es : List ℕ) × Knot (loopOf f) es)
   refused-knot = judging.judge-knot f w
 
-  pub knot-refused : f .length ≢ 0 → (es : List ℕ) → Knot (loopOf f) es → judgeOf f ≡ refusal.Knot
+  pub knot-refused : f .header .length ≢ 0 → (es : List ℕ) → Knot (loopOf f) es → judgeOf f ≡ refusal.Knot
   knot-refused = judging.knot-judge f w
 
   -- else Dependence exactly with the lowest edge that breaks the edge rule
-  pub refused-dependence : (e : ℕ) → judgeOf f ≡ refusal.Dependence e → (f .length ≢ 0) × Free (loopOf f) × LowestEdge (loopOf f) (pairOf f) e
+  pub refused-dependence : (e : ℕ) → judgeOf f ≡ refusal.Dependence e → (f .header .length ≢ 0) × Free (loopOf f) × LowestEdge (loopOf f) (pairOf f) e
   refused-dependence = judging.judge-dependence f w
 
-  pub dependence-refused : (e : ℕ) → f .length ≢ 0 → Free (loopOf f) → LowestEdge (loopOf f) (pairOf f) e → judgeOf f ≡ refusal.Dependence e
+  pub dependence-refused : (e : ℕ) → f .header .length ≢ 0 → Free (loopOf f) → LowestEdge (loopOf f) (pairOf f) e → judgeOf f ≡ refusal.Dependence e
   dependence-refused = judging.dependence-judge f w
 
   -- else Units exactly with the lowest step that holds too much, and its lowest class
   pub refused-units : (q c : ℕ) → judgeOf f ≡ refusal.Units q c
-      → (f .length ≢ 0) × Free (loopOf f) × EdgeRules (loopOf f) (pairOf f) × LowestOver (loopOf f) (pairOf f) q c
+      → (f .header .length ≢ 0) × Free (loopOf f) × EdgeRules (loopOf f) (pairOf f) × LowestOver (loopOf f) (pairOf f) q c
   refused-units = judging.judge-units f w
 
-  pub units-refused : (q c : ℕ) → f .length ≢ 0 → Free (loopOf f) → EdgeRules (loopOf f) (pairOf f) → LowestOver (loopOf f) (pairOf f) q c
+  pub units-refused : (q c : ℕ) → f .header .length ≢ 0 → Free (loopOf f) → EdgeRules (loopOf f) (pairOf f) → LowestOver (loopOf f) (pairOf f) q c
       → judgeOf f ≡ refusal.Units q c
   units-refused = judging.units-judge f w
 
   -- ---- the fit, of a well-formed form
 
   -- NoRetiming exactly where there is a schedule, no knot, and no retiming fits the starts
-  pub unfit-impossible : fitOf f ≡ refusal.NoRetiming → (f .length ≢ 0) × Free (loopOf f) × ((r : ℕ → ℕ) → Fits (loopOf f) (pairOf f) r → ⊥)
+  pub unfit-impossible : fitOf f ≡ refusal.NoRetiming → (f .header .length ≢ 0) × Free (loopOf f) × ((r : ℕ → ℕ) → Fits (loopOf f) (pairOf f) r → ⊥)
   unfit-impossible = fitting.fit-impossible f w
 
-  pub impossible-unfitted : f .length ≢ 0 → Free (loopOf f) → ((r : ℕ → ℕ) → Fits (loopOf f) (pairOf f) r → ⊥) → fitOf f ≡ refusal.NoRetiming
+  pub impossible-unfitted : f .header .length ≢ 0 → Free (loopOf f) → ((r : ℕ → ℕ) → Fits (loopOf f) (pairOf f) r → ⊥) → fitOf f ≡ refusal.NoRetiming
   impossible-unfitted = fitting.impossible-fit f w
 
   -- what is answered is a legal pair, which the judge accepts
@@ -158,13 +158,13 @@ module _ (f : Form) (w : WellFormed f) where
   fitted-accepted = fitting.fit-judged f w
 
   -- of the retimings that fit, none is less deep
-  pub fitted-least : fitOf f ≡ None → (r : ℕ → ℕ) (d : ℕ) → Fits (loopOf f) (pairOf f) r → ((v : ℕ) → v < f .nodes → r v ≤ d)
+  pub fitted-least : fitOf f ≡ None → (r : ℕ → ℕ) (d : ℕ) → Fits (loopOf f) (pairOf f) r → ((v : ℕ) → v < f .header .nodes → r v ≤ d)
       → top (fittedForm f .retiming) ≤ d
   fitted-least = fitting.fit-least f w
 
   -- and none that is no deeper is larger at any node
-  pub fitted-largest : fitOf f ≡ None → (r : ℕ → ℕ) → Fits (loopOf f) (pairOf f) r → ((v : ℕ) → v < f .nodes → r v ≤ top (fittedForm f .retiming))
-      → (v : ℕ) → v < f .nodes → r v ≤ retimingOf (fittedForm f) v
+  pub fitted-largest : fitOf f ≡ None → (r : ℕ → ℕ) → Fits (loopOf f) (pairOf f) r → ((v : ℕ) → v < f .header .nodes → r v ≤ top (fittedForm f .retiming))
+      → (v : ℕ) → v < f .header .nodes → r v ≤ retimingOf (fittedForm f) v
   fitted-largest = fitting.fit-largest f w
 
 -- a cycle with negative limit sum proves that no retiming fits
@@ -239,12 +239,12 @@ module _ (f : Form) (w : WellFormed f) (free : knotted (loopOf f) ≡ false) whe
   unfolding firstForm withPair
   first-unretimed v = zeros-at 64 v
 
-  pub first-bounded : (1 ≤ firstForm f .length) × (firstForm f .length ≤ 512)
+  pub first-bounded : (1 ≤ firstForm f .header .length) × (firstForm f .header .length ≤ 512)
   first-bounded = firsts.first-form-length f w free
 
 -- a node's weight is the number of other nodes to which a path of at most N edges of retimed delay 0 leads
-pub weight-is : (f : Form) → WellFormed f → (v : ℕ) → v < f .nodes
-    → Numbers (Leads (loopOf f) (retimingOf f) v) (f .nodes) (getD (weightsOf (loopOf f) (retimingOf f)) v 0)
+pub weight-is : (f : Form) → WellFormed f → (v : ℕ) → v < f .header .nodes
+    → Numbers (Leads (loopOf f) (retimingOf f) v) (f .header .nodes) (getD (weightsOf (loopOf f) (retimingOf f)) v 0)
 unfolding loopOf graphOf
 weight-is f w v l =
     rw (weights-at (loopOf f) (retimingOf f) v l) (weight-numbers (loopOf f) (retimingOf f) (sound-form f w .joined) (sound-form f w .few) v l)
@@ -260,7 +260,7 @@ list-rule-places g r sound staffed ranked s m within l v h = rule-places g r sou
 
 -- ---- rotations, of a well-formed form with a legal pair
 
-module _ (f : Form) (w : WellFormed f) (legal : Legal (loopOf f) (pairOf f)) (z : ℕ) (one : 1 ≤ z) (below : z < f .length) (whole : length (f .start) ≡ 64) where
+module _ (f : Form) (w : WellFormed f) (legal : Legal (loopOf f) (pairOf f)) (z : ℕ) (one : 1 ≤ z) (below : z < f .header .length) (whole : length (f .start) ≡ 64) where
   -- a legal pair again, or more than 512 steps
   pub rotation-legal : rotatedLength f z ≤ 512 → Legal (loopOf (rotated f z)) (pairOf (rotated f z))
   rotation-legal = rotations.rotated-form-legal f w legal z one below whole

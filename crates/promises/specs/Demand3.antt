@@ -49,11 +49,11 @@ module _ (f : Form) (w : WellFormed f) (starts : List ℕ) (k : ℕ) (values fin
   accepted-values = judges.accepted-values f w starts k values finish room room′
 
   -- refused, with at least one iteration more than the depth: the run gets stuck
-  pub refused-sooner : f .length ≢ 0 → judgeOf f ≢ None → depth (loopOf f) (pairOf f) + 1 ≤ k → runOf (loopOf f) (pairOf f) starts k values finish .refusal ≢ None
+  pub refused-sooner : f .header .length ≢ 0 → judgeOf f ≢ None → depth (loopOf f) (pairOf f) + 1 ≤ k → runOf (loopOf f) (pairOf f) starts k values finish .refusal ≢ None
   refused-sooner = judges.refused-stuck f w starts k values finish room room′
 
   -- so it does with the depth plus sixteen
-  pub refused-stuck : f .length ≢ 0 → judgeOf f ≢ None → depth (loopOf f) (pairOf f) + 16 ≤ k → runOf (loopOf f) (pairOf f) starts k values finish .refusal ≢ None
+  pub refused-stuck : f .header .length ≢ 0 → judgeOf f ≢ None → depth (loopOf f) (pairOf f) + 16 ≤ k → runOf (loopOf f) (pairOf f) starts k values finish .refusal ≢ None
   refused-stuck n j d = refused-sooner n j (omega arith)
 
 -- the plain loop's equations have one table at most, where there is no knot
@@ -65,20 +65,20 @@ plain-one = unique
 
 module _ (s : List ℕ) (bytes : Bytes s) (k : ℕ) (starts values₀ finish₀ values finish : List ℕ)
     (r : Ran) (ran : RecordRun s k starts values₀ finish₀ values finish r)
-    (lent : 15 * readForm s .form .nodes ≤ length starts)
-    (room : k * readForm s .form .nodes ≤ length values₀)
-    (room′ : k * readForm s .form .nodes ≤ length finish₀) where
+    (lent : 15 * readForm s .form .header .nodes ≤ length starts)
+    (room : k * readForm s .form .header .nodes ≤ length values₀)
+    (room′ : k * readForm s .form .header .nodes ≤ length finish₀) where
   -- what is read, has a schedule and has room is run
-  begun : fine (readForm s .refusal) ≡ true → readForm s .form .length ≢ 0 → asked s k starts values₀ finish₀ ≡ None
+  begun : fine (readForm s .refusal) ≡ true → readForm s .form .header .length ≢ 0 → asked s k starts values₀ finish₀ ≡ None
   unfolding asked roomAsked
   begun e n =
       pick-true (fine (readForm s .refusal)) _ _ e
-      ∙ pick-false (eqb (readForm s .form .length) 0) _ _ (ne-eqb _ _ n)
-      ∙ pick-false (ltb (length starts) (15 * readForm s .form .nodes)) _ _ (le-ltb _ _ lent)
-      ∙ pick-false (ltb (length values₀) (k * readForm s .form .nodes)) _ _ (le-ltb _ _ room)
-      ∙ pick-false (ltb (length finish₀) (k * readForm s .form .nodes)) _ _ (le-ltb _ _ room′)
+      ∙ pick-false (eqb (readForm s .form .header .length) 0) _ _ (ne-eqb _ _ n)
+      ∙ pick-false (ltb (length starts) (15 * readForm s .form .header .nodes)) _ _ (le-ltb _ _ lent)
+      ∙ pick-false (ltb (length values₀) (k * readForm s .form .header .nodes)) _ _ (le-ltb _ _ room)
+      ∙ pick-false (ltb (length finish₀) (k * readForm s .form .header .nodes)) _ _ (le-ltb _ _ room′)
 
-  module _ (e : fine (readForm s .refusal) ≡ true) (n : readForm s .form .length ≢ 0) where
+  module _ (e : fine (readForm s .refusal) ≡ true) (n : readForm s .form .header .length ≢ 0) where
     begun-fine : fine (asked s k starts values₀ finish₀) ≡ true
     unfolding fine
     begun-fine = ap fine (begun e n)
@@ -103,19 +103,19 @@ module _ (s : List ℕ) (bytes : Bytes s) (k : ℕ) (starts values₀ finish₀ 
         go false e = both-ways (sym (ap fine (sym q ∙ judged .refusal ∙ pick-false (fine (readForm s .refusal)) _ _ e))) e
 
     -- accepted: the run is not refused, its steps are (K + D) * L
-    pub accepted-record-runs : j .refusal ≡ None → (r .refusal ≡ None) × (r .steps ≡ (k + depth (loopOf (readForm s .form)) (pairOf (readForm s .form))) * readForm s .form .length)
+    pub accepted-record-runs : j .refusal ≡ None → (r .refusal ≡ None) × (r .steps ≡ (k + depth (loopOf (readForm s .form)) (pairOf (readForm s .form))) * readForm s .form .header .length)
     unfolding fine runSteps loopOf graphOf pairOf
     accepted-record-runs q =
         let a = accepts q in
         let f : Form = readForm s .form in
         let w : WellFormed f = reading.read-well-formed s bytes (a .0) in
-        let n : f .length ≢ 0 = judging.judge-accepts f w (a .1) .0 in
+        let n : f .header .length ≢ 0 = judging.judge-accepts f w (a .1) .0 in
         let none : r .refusal ≡ None = refusal-is (a .0) n ∙ accepted-runs f w starts k values₀ finish₀ room room′ (a .1) in
         (none, ran .steps ∙ pick-true (fine (r .refusal)) _ _ (ap fine none))
 
     -- and each value of each iteration is what the plain loop leaves at its place
     pub accepted-record-values : j .refusal ≡ None → (before after : List ℕ) (x : Looped) → RecordLooped s k starts before after x → x .refusal ≡ None
-        → (i v : ℕ) → i < k → v < readForm s .form .nodes → getD values (i * readForm s .form .nodes + v) 0 ≡ getD after (i * readForm s .form .nodes + v) 0
+        → (i v : ℕ) → i < k → v < readForm s .form .header .nodes → getD values (i * readForm s .form .header .nodes + v) 0 ≡ getD after (i * readForm s .form .header .nodes + v) 0
     unfolding fine loopOf graphOf
     accepted-record-values q before after x looped fits i v l h =
         let a = accepts q in
@@ -126,7 +126,7 @@ module _ (s : List ℕ) (bytes : Bytes s) (k : ℕ) (starts values₀ finish₀ 
         plain-one (loopOf f) (sound-form f w) starts k values after mine (looped .done (ap fine fits) .plain) (legal-free (loopOf f) (pairOf f) (sound-form f w) (legal .1)) i v l h
 
     -- refused for its pair, with at least the depth plus sixteen iterations: stuck
-    pub refused-record-stuck : fine (readForm s .refusal) ≡ true → readForm s .form .length ≢ 0 → j .refusal ≢ None
+    pub refused-record-stuck : fine (readForm s .refusal) ≡ true → readForm s .form .header .length ≢ 0 → j .refusal ≢ None
         → depth (loopOf (readForm s .form)) (pairOf (readForm s .form)) + 16 ≤ k → r .refusal ≢ None
     unfolding judgeRecord loopOf graphOf
     refused-record-stuck e n no-judge d none =

@@ -50,8 +50,8 @@ tights-more f ts e a l is-a all =
 -- ---- a form's tables
 
 module _ (f : Form) where
-  pub fits-form : (keys : ℕ → ℕ) (first next heads : List ℕ) → WellFormed f → Chains keys (f .edges) first next
-      → ((e : ℕ) → e < f .edges → getD heads e 0 < 64) → HeadsLinked (f .edges) first next heads
+  pub fits-form : (keys : ℕ → ℕ) (first next heads : List ℕ) → WellFormed f → Chains keys (f .header .edges) first next
+      → ((e : ℕ) → e < f .header .edges → getD heads e 0 < 64) → HeadsLinked (f .header .edges) first next heads
   fits-form keys first next heads w c inside = record {
     few = w .edges;
     begins = begins-in keys _ _ _ c;
@@ -60,14 +60,14 @@ module _ (f : Form) where
     head-in = inside;
   }
 
-  pub weight-form : (v w : ℕ) (first next ts : List ℕ) → WellFormed f → Chains (λ e. getD (f .from) e 0) (f .edges) first next
-      → ((e : ℕ) → e < f .edges → tight (loopOf f) (retimingOf f) e ≡ eqb (getD ts e 0) 1)
-      → ((g : Loop) (r : ℕ → ℕ) → g .graph .nodes ≡ f .nodes → TellsTight g r (f .edges) first next (f .to) ts → w ≡ weight g r v) → w ≡ weight (loopOf f) (retimingOf f) v
+  pub weight-form : (v w : ℕ) (first next ts : List ℕ) → WellFormed f → Chains (λ e. getD (f .from) e 0) (f .header .edges) first next
+      → ((e : ℕ) → e < f .header .edges → tight (loopOf f) (retimingOf f) e ≡ eqb (getD ts e 0) 1)
+      → ((g : Loop) (r : ℕ → ℕ) → g .graph .nodes ≡ f .header .nodes → TellsTight g r (f .header .edges) first next (f .to) ts → w ≡ weight g r v) → w ≡ weight (loopOf f) (retimingOf f) v
   unfolding loopOf graphOf
   weight-form v w first next ts well c h all =
       all (loopOf f) (retimingOf f) refl
       (record { joined = joined-form f well; few-nodes = well .nodes .1; all = refl; out = c; is-head = λ e l. refl; is-tight = h })
 
-  pub weights-form : (v : ℕ) (xs : List ℕ) → v ≡ f .nodes → xs ≡ filled 64 (weight (loopOf f) (retimingOf f)) v → xs ≡ weightsOf (loopOf f) (retimingOf f)
+  pub weights-form : (v : ℕ) (xs : List ℕ) → v ≡ f .header .nodes → xs ≡ filled 64 (weight (loopOf f) (retimingOf f)) v → xs ≡ weightsOf (loopOf f) (retimingOf f)
   unfolding weightsOf loopOf graphOf
   weights-form v xs e h = h ∙ rw e

@@ -26,11 +26,11 @@ fn tight_mark(delays: u8, tail: u8, head: u8) -> u8
 // A 1 for each edge of retimed delay 0; 0 for the others, and past the edges.
 fn tights_of(form: Form) -> [u8; 256]
     requires { ⌜ WellFormed form ⌝ }
-    ensures { λ t. ⌜ ((e : ℕ) → e < form .edges → tight (loopOf form) (retimingOf form) e ≡ eqb (getD t e 0) 1) ⌝ }
+    ensures { λ t. ⌜ ((e : ℕ) → e < form .header .edges → tight (loopOf form) (retimingOf form) e ≡ eqb (getD t e 0) 1) ⌝ }
 {
     let mut tights = [0u8; 256];
     let mut e: usize = 0;
-    while e < form.edges as usize {
+    while e < form.header.edges as usize {
         let tail = form.from[e] as usize;
         let head = form.to[e] as usize;
         tights[e] = tight_mark(form.delays[e], form.retiming[tail], form.retiming[head]);
@@ -178,13 +178,13 @@ pub fn weights(form: Form) -> [u8; 64]
     ensures { λ w. ⌜ w ≡ weightsOf (loopOf form) (retimingOf form) ⌝ }
 {
     let tights = tights_of(form);
-    let out = links::links_of(&form.from, form.edges);
+    let out = links::links_of(&form.from, form.header.edges);
     let mut weights = [0u8; 64];
-    for v in 0..form.nodes {
+    for v in 0..form.header.nodes {
         weights[v as usize] = weight_of(
             v,
-            form.nodes,
-            form.edges,
+            form.header.nodes,
+            form.header.edges,
             &out.first,
             &out.next,
             &form.to,

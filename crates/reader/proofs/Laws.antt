@@ -17,14 +17,14 @@ use Rattle.reader.specs.declared.Reading.{Reading}
 use Rattle.answer.specs.declared.Refusal.{Refusal}
 use Rattle.answer.specs.declared.Refusal.the-variants.{None, Retiming, Tail}
 use Rattle.form.specs.declared.Form.{Form}
-use Rattle.form.specs.Places.{noStep, emptyForm, withCounts, scheduled, scheduledOf}
+use Rattle.form.specs.Places.{noStep, emptyForm, scheduled, scheduledOf, withClasses, withNodes, withEdges, withStarts, withHeader}
 use Rattle.reader.specs.declared.Record.{Record}
 use Rattle.reader.specs.declared.Counts.{Counts}
 use Rattle.reader.specs.declared.ClassTable.{ClassTable}
 use Rattle.reader.specs.declared.NodeTable.{NodeTable}
 use Rattle.reader.specs.declared.EdgeTable.{EdgeTable}
 use Rattle.reader.specs.declared.StartTable.{StartTable}
-use Rattle.reader.specs.Tables.{headerOf, table, classStep, nodeStep, edgeStep, startStep, Headed, Stage, withClasses, withNodes, withEdges, withStarts, ClassesRead, NodesRead, EdgesRead, StartsRead}
+use Rattle.reader.specs.Tables.{headerOf, table, classStep, nodeStep, edgeStep, startStep, Headed, Stage, ClassesRead, NodesRead, EdgesRead, StartsRead}
 use Rattle.reader.specs.Reading.{zeroFrom, normalized, retimingOffset, endOf, answered, classesRead, nodesRead, edgesRead, startsRead, readForm}
 
 -- an array of structs as a field: its length, from what owning the struct tells
@@ -38,10 +38,10 @@ pub ruleset tests = (needs, length-mapped, le-ltb, lt-ltb, le-leb, lt-leb, eq-eq
 pub record Going (step : ℕ → Reading → Reading) (n : ℕ) (x : Reading) (width i : ℕ) (y : Reading) : Type 0 where
   pub within : i ≤ n
   pub rest : table step (n - i) i y ≡ table step n 0 x
-  pub classes : y .form .classes ≡ x .form .classes
-  pub nodes : y .form .nodes ≡ x .form .nodes
-  pub edges : y .form .edges ≡ x .form .edges
-  pub length : y .form .length ≡ x .form .length
+  pub classes : y .form .header .classes ≡ x .form .header .classes
+  pub nodes : y .form .header .nodes ≡ x .form .header .nodes
+  pub edges : y .form .header .edges ≡ x .form .header .edges
+  pub length : y .form .header .length ≡ x .form .header .length
   pub near : y .next .at ≤ x .next .at + width * i
 
 module _ (step : ℕ → Reading → Reading) (n : ℕ) (x : Reading) (width : ℕ) where
@@ -86,7 +86,7 @@ module _ (step : ℕ → Reading → Reading) (n : ℕ) (x : Reading) (width : �
 
     -- one row more, that keeps the counts and is no wider than `width`
     pub turn : i < n → fine (y .next .refusal) ≡ true → (z : Reading) → z ≡ step i y
-        → z .form .classes ≡ y .form .classes → z .form .nodes ≡ y .form .nodes → z .form .edges ≡ y .form .edges → z .form .length ≡ y .form .length
+        → z .form .header .classes ≡ y .form .header .classes → z .form .header .nodes ≡ y .form .header .nodes → z .form .header .edges ≡ y .form .header .edges → z .form .header .length ≡ y .form .header .length
         → z .next .at ≤ y .next .at + width → Going step n x width (i + 1) z
     unfolding table pick
     turn h f z e c v d l w =
@@ -130,15 +130,15 @@ unfolding pick fine
 last true o t = refl
 last false o t = refl
 
-pub ended : (s : List ℕ) (x : Reading) (u t e r : Refusal) → u ≡ pick (normalized (x .form .length) (x .form .nodes) (x .form .retiming)) None (Retiming (retimingOffset (x .form)))
+pub ended : (s : List ℕ) (x : Reading) (u t e r : Refusal) → u ≡ pick (normalized (x .form .header .length) (x .form .header .nodes) (x .form .retiming)) None (Retiming (retimingOffset (x .form)))
     → t ≡ pick (ltb (x .next .at) (length s)) (Tail (x .next .at)) None → e ≡ pick (fine u) t u → r ≡ pick (fine (x .next .refusal)) e (x .next .refusal) → r ≡ endOf s x
 unfolding endOf
-ended s x u t e r eu et ee er = rw (er, ee, eu, last (normalized (x .form .length) (x .form .nodes) (x .form .retiming)) (retimingOffset (x .form)) t, et)
+ended s x u t e r eu et ee er = rw (er, ee, eu, last (normalized (x .form .header .length) (x .form .header .nodes) (x .form .retiming)) (retimingOffset (x .form)) t, et)
 
 -- ---- the whole record
 
-pub staged : (s : List ℕ) (h k v e x : Reading) (n : ℕ) → h ≡ headerOf s → k ≡ table (classStep s) (h .form .classes) 0 h
-    → v ≡ table (nodeStep s) (k .form .nodes) 0 k → e ≡ table (edgeStep s) (v .form .edges) 0 v → n ≡ scheduled (e .form)
+pub staged : (s : List ℕ) (h k v e x : Reading) (n : ℕ) → h ≡ headerOf s → k ≡ table (classStep s) (h .form .header .classes) 0 h
+    → v ≡ table (nodeStep s) (k .form .header .nodes) 0 k → e ≡ table (edgeStep s) (v .form .header .edges) 0 v → n ≡ scheduled (e .form)
     → x ≡ table (startStep s) n 0 e → x ≡ startsRead s
 unfolding classesRead nodesRead edgesRead startsRead
 staged s h k v e x n eh ek ev ee en ex = rw (ex, en, ee, ev, ek, eh)
@@ -164,13 +164,13 @@ module _
     (n : ℕ)
     (x : StartTable)
     (headed : Headed s h)
-    (ks : ClassesRead s (h .next) (h .classes) k)
-    (ns : NodesRead s (k .next) (h .classes) (h .nodes) v)
-    (es : EdgesRead s (v .next) (h .nodes) (h .edges) e)
-    (en : n ≡ scheduledOf (h .length) (h .nodes))
-    (ss : StartsRead s (e .next) (h .length) (k .class) (v .node) n x) where
+    (ks : ClassesRead s (h .next) (h .header .classes) k)
+    (ns : NodesRead s (k .next) (h .header .classes) (h .header .nodes) v)
+    (es : EdgesRead s (v .next) (h .header .nodes) (h .header .edges) e)
+    (en : n ≡ scheduledOf (h .header .length) (h .header .nodes))
+    (ss : StartsRead s (e .next) (h .header .length) (k .class) (v .node) n x) where
   abbrev counted : Form
-  counted = withCounts emptyForm (h .classes) (h .nodes) (h .edges) (h .length)
+  counted = withHeader emptyForm (h .header)
 
   -- the form that they make, and the cursor past them
   abbrev pub whole : Reading

@@ -11,19 +11,20 @@ use Rattle.answer.specs.declared.Refusal.{Refusal}
 use Rattle.answer.specs.declared.Refusal.the-variants.{None, Retiming, Tail}
 use Rattle.form.specs.declared.Form.{Form}
 use Rattle.form.specs.Places.{emptyForm, scheduled}
+use Rattle.form.specs.Offsets.{startsAt}
 use Rattle.reader.specs.declared.Reading.{Reading}
 use Rattle.reader.specs.declared.Record.{Record}
 use Rattle.reader.specs.Tables.{headerOf, table, classStep, nodeStep, edgeStep, startStep}
 
 module _ (s : List ℕ) where
   unfoldable pub classesRead : Reading
-  classesRead = table (classStep s) (headerOf s .form .classes) 0 (headerOf s)
+  classesRead = table (classStep s) (headerOf s .form .header .classes) 0 (headerOf s)
 
   unfoldable pub nodesRead : Reading
-  nodesRead = table (nodeStep s) (classesRead .form .nodes) 0 classesRead
+  nodesRead = table (nodeStep s) (classesRead .form .header .nodes) 0 classesRead
 
   unfoldable pub edgesRead : Reading
-  edgesRead = table (edgeStep s) (nodesRead .form .edges) 0 nodesRead
+  edgesRead = table (edgeStep s) (nodesRead .form .header .edges) 0 nodesRead
 
   unfoldable pub startsRead : Reading
   startsRead = table (startStep s) (scheduled (edgesRead .form)) 0 edgesRead
@@ -40,15 +41,15 @@ someZero n rs = zeroFrom n 0 rs
 unfoldable pub normalized : ℕ → ℕ → List ℕ → Bool
 normalized l n rs = pick (eqb l 0) true (someZero n rs)
 
--- the offset of node 0's retiming: 11 bytes of header, the tables, and its start
+-- the offset of node 0's retiming, past its start
 unfoldable pub retimingOffset : Form → ℕ
-retimingOffset f = 13 + 3 * f .classes + 6 * f .nodes + 3 * f .edges
+retimingOffset f = startsAt (f .header) + 2
 
 -- what is refused once the last field is read
 unfoldable pub endOf : List ℕ → Reading → Refusal
 endOf s x =
     pick (fine (x .next .refusal))
-    (pick (normalized (x .form .length) (x .form .nodes) (x .form .retiming)) (pick (ltb (x .next .at) (length s)) (Tail (x .next .at)) None) (Retiming (retimingOffset (x .form))))
+    (pick (normalized (x .form .header .length) (x .form .header .nodes) (x .form .retiming)) (pick (ltb (x .next .at) (length s)) (Tail (x .next .at)) None) (Retiming (retimingOffset (x .form))))
     (x .next .refusal)
 
 -- the form where nothing is refused, else the empty form

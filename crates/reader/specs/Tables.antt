@@ -10,7 +10,7 @@ use Rattle.form.specs.declared.Form.{Form}
 use Rattle.form.specs.declared.Class.{Class}
 use Rattle.form.specs.declared.Node.{Node}
 use Rattle.form.specs.declared.BodyStep.{BodyStep}
-use Rattle.form.specs.Places.{noClass, noNode, noStep, emptyForm, latencyOf, withCounts, withClass, withNode, withEdge, withStart}
+use Rattle.form.specs.Places.{noClass, noNode, noStep, emptyForm, latencyOf, withCounts, withClass, withNode, withEdge, withStart, withClasses, withNodes, withEdges, withStarts, withHeader}
 use Rattle.field.specs.declared.Cursor.{Cursor}
 use Rattle.field.specs.declared.Taken.{Taken}
 use Rattle.field.specs.declared.Kind.the-variants.{Mark, Version, Count}
@@ -60,103 +60,42 @@ classStep s i x = record { form = withClass (x .form) i (classAt s (x .next) .cl
 
 unfoldable pub nodeStep : List ℕ → ℕ → Reading → Reading
 nodeStep s v x = record {
-  form = withNode (x .form) v (nodeAt s (x .next) (x .form .classes) .node);
-  next = nodeAt s (x .next) (x .form .classes) .next;
+  form = withNode (x .form) v (nodeAt s (x .next) (x .form .header .classes) .node);
+  next = nodeAt s (x .next) (x .form .header .classes) .next;
 }
 
 unfoldable pub edgeStep : List ℕ → ℕ → Reading → Reading
 edgeStep s e x = record {
-  form = withEdge (x .form) e (edgeAt s (x .next) (x .form .nodes) .edge);
-  next = edgeAt s (x .next) (x .form .nodes) .next;
+  form = withEdge (x .form) e (edgeAt s (x .next) (x .form .header .nodes) .edge);
+  next = edgeAt s (x .next) (x .form .header .nodes) .next;
 }
 
 unfoldable pub startStep : List ℕ → ℕ → Reading → Reading
 startStep s v x = record {
   form =
       withStart (x .form) v
-      (startAt s (x .next) (x .form .length) (latencyOf (x .form) v) .start)
-      (startAt s (x .next) (x .form .length) (latencyOf (x .form) v) .retiming);
-  next = startAt s (x .next) (x .form .length) (latencyOf (x .form) v) .next;
+      (startAt s (x .next) (x .form .header .length) (latencyOf (x .form) v) .start)
+      (startAt s (x .next) (x .form .header .length) (latencyOf (x .form) v) .retiming);
+  next = startAt s (x .next) (x .form .header .length) (latencyOf (x .form) v) .next;
 }
 
 -- the header read, with the bounds that the tables need
 pub record Headed (s : List ℕ) (h : Counts) : Type 0 where
-  pub is : _≡_ {A = Reading} (record { form = withCounts emptyForm (h .classes) (h .nodes) (h .edges) (h .length); next = h .next }) (headerOf s)
-  pub few-classes : h .classes ≤ 4
-  pub few-nodes : h .nodes ≤ 64
-  pub few-edges : h .edges ≤ 256
-  pub short : h .length ≤ 512
+  pub is : _≡_ {A = Reading} (record { form = withHeader emptyForm (h .header); next = h .next }) (headerOf s)
+  pub few-classes : h .header .classes ≤ 4
+  pub few-nodes : h .header .nodes ≤ 64
+  pub few-edges : h .header .edges ≤ 256
+  pub short : h .header .length ≤ 512
   pub near : h .next .at ≤ 11
 
 -- a table read, with rows of a width at most: the counts stay, and the cursor moves no further than the rows reach
 pub record Stage (step : ℕ → Reading → Reading) (n : ℕ) (x : Reading) (width : ℕ) (r : Reading) : Type 0 where
   pub is : r ≡ table step n 0 x
-  pub classes : r .form .classes ≡ x .form .classes
-  pub nodes : r .form .nodes ≡ x .form .nodes
-  pub edges : r .form .edges ≡ x .form .edges
-  pub length : r .form .length ≡ x .form .length
+  pub classes : r .form .header .classes ≡ x .form .header .classes
+  pub nodes : r .form .header .nodes ≡ x .form .header .nodes
+  pub edges : r .form .header .edges ≡ x .form .header .edges
+  pub length : r .form .header .length ≡ x .form .header .length
   pub near : r .next .at ≤ x .next .at + width * n
-
--- the form with a whole table given
-abbrev pub withClasses : Form → List Class → Form
-withClasses f ks = record {
-  classes = f .classes;
-  nodes = f .nodes;
-  edges = f .edges;
-  length = f .length;
-  class = ks;
-  node = f .node;
-  from = f .from;
-  to = f .to;
-  delays = f .delays;
-  start = f .start;
-  retiming = f .retiming;
-}
-
-abbrev pub withNodes : Form → List Node → Form
-withNodes f ns = record {
-  classes = f .classes;
-  nodes = f .nodes;
-  edges = f .edges;
-  length = f .length;
-  class = f .class;
-  node = ns;
-  from = f .from;
-  to = f .to;
-  delays = f .delays;
-  start = f .start;
-  retiming = f .retiming;
-}
-
-abbrev pub withEdges : Form → List ℕ → List ℕ → List ℕ → Form
-withEdges f ts hs ds = record {
-  classes = f .classes;
-  nodes = f .nodes;
-  edges = f .edges;
-  length = f .length;
-  class = f .class;
-  node = f .node;
-  from = ts;
-  to = hs;
-  delays = ds;
-  start = f .start;
-  retiming = f .retiming;
-}
-
-abbrev pub withStarts : Form → List BodyStep → List ℕ → Form
-withStarts f ss rs = record {
-  classes = f .classes;
-  nodes = f .nodes;
-  edges = f .edges;
-  length = f .length;
-  class = f .class;
-  node = f .node;
-  from = f .from;
-  to = f .to;
-  delays = f .delays;
-  start = ss;
-  retiming = rs;
-}
 
 -- each table, read into whatever form holds the counts: from an empty one at the cursor to what comes back
 abbrev pub ClassesRead : List ℕ → Cursor → ℕ → ClassTable → Type 0
@@ -165,12 +104,12 @@ ClassesRead s at n r =
 
 abbrev pub NodesRead : List ℕ → Cursor → ℕ → ℕ → NodeTable → Type 0
 NodesRead s at classes n r =
-    (f : Form) → f .classes ≡ classes
+    (f : Form) → f .header .classes ≡ classes
     → Stage (nodeStep s) n (record { form = withNodes f (replicate 64 noNode); next = at }) 6 (record { form = withNodes f (r .node); next = r .next })
 
 abbrev pub EdgesRead : List ℕ → Cursor → ℕ → ℕ → EdgeTable → Type 0
 EdgesRead s at nodes n r =
-    (f : Form) → f .nodes ≡ nodes
+    (f : Form) → f .header .nodes ≡ nodes
     → Stage (edgeStep s) n
     (record { form = withEdges f (replicate 256 0) (replicate 256 0) (replicate 256 0); next = at })
     3
@@ -178,7 +117,7 @@ EdgesRead s at nodes n r =
 
 abbrev pub StartsRead : List ℕ → Cursor → ℕ → List Class → List Node → ℕ → StartTable → Type 0
 StartsRead s at l ks ns n r =
-    (f : Form) → f .length ≡ l → f .class ≡ ks → f .node ≡ ns
+    (f : Form) → f .header .length ≡ l → f .class ≡ ks → f .node ≡ ns
     → Stage (startStep s) n
     (record { form = withStarts f (replicate 64 noStep) (replicate 64 0); next = at })
     3

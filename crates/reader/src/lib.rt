@@ -6,8 +6,9 @@ ghost use lib.ListN.{length, getD, replicate};
 ghost use Rattle.lists.specs.Pick.{pick};
 ghost use Rattle.answer.specs.Refused.{fine};
 ghost use Rattle.answer.specs.declared.Refusal.the-variants.{None, Retiming, Tail};
-ghost use Rattle.form.specs.Places.{noClass, noStep, emptyForm, withCounts, scheduledOf};
-ghost use Rattle.reader.specs.Tables.{Headed, ClassesRead, NodesRead, EdgesRead, StartsRead, withStarts};
+ghost use Rattle.form.specs.Places.{noClass, noStep, emptyForm, scheduledOf, withStarts, withHeader};
+ghost use Rattle.form.specs.Offsets.{startsAt};
+ghost use Rattle.reader.specs.Tables.{Headed, ClassesRead, NodesRead, EdgesRead, StartsRead};
 ghost use Rattle.reader.specs.Reading.{someZero, normalized, endOf, readForm};
 use answer::Refusal;
 use field::Cursor;
@@ -15,6 +16,7 @@ use field::Kind;
 use form::BodyStep;
 use form::Class;
 use form::Form;
+use form::Header;
 use form::Node;
 use form::Operation;
 
@@ -24,12 +26,9 @@ pub struct Reading {
     pub next: Cursor,
 }
 
-// The counts, and the cursor past them. Tables go from stage to stage and not the form, which would be copied at each.
+// The header, and the cursor past it. Tables go from stage to stage and not the form, which would be copied at each.
 pub struct Counts {
-    pub classes: u8,
-    pub nodes: u8,
-    pub edges: u16,
-    pub length: u16,
+    pub header: Header,
     pub next: Cursor,
 }
 
@@ -95,10 +94,12 @@ fn header(s: &[u8]) -> Counts
     let length = field::take(s, length_at, 2, 0, 512, Kind::Count);
     let next = length.next;
     Counts {
-        classes: classes.value as u8,
-        nodes: nodes.value as u8,
-        edges: edges.value as u16,
-        length: length.value as u16,
+        header: Header {
+            classes: classes.value as u8,
+            nodes: nodes.value as u8,
+            edges: edges.value as u16,
+            length: length.value as u16,
+        },
         next,
     }
 }
@@ -273,14 +274,15 @@ fn first_of(refusal: Refusal, next: Refusal) -> Refusal
 
 // A schedule has a retiming 0.
 fn none_is_zero(counts: Counts, retiming: [u8; 64]) -> Refusal
-    requires { ⌜ counts .nodes ≤ 64 ⌝ }
-    ensures { λ r. ⌜ r ≡ pick (normalized (counts .length) (counts .nodes) retiming) None (Retiming (13 + 3 * counts .classes + 6 * counts .nodes + 3 * counts .edges)) ⌝ }
+    requires { ⌜ counts .header .nodes ≤ 64 ⌝ }
+    ensures { λ r. ⌜ r ≡ pick (normalized (counts .header .length) (counts .header .nodes) retiming) None (Retiming (startsAt (counts .header) + 2)) ⌝ }
 {
-    if is_normalized(counts.length, counts.nodes, retiming) {
+    if is_normalized(counts.header.length, counts.header.nodes, retiming) {
         return Refusal::None;
     }
-    let before = 13 + 3 * counts.classes as u32 + 6 * counts.nodes as u32;
-    Refusal::Retiming(before + 3 * counts.edges as u32)
+    let edges_at = 11 + 3 * counts.header.classes as u32 + 6 * counts.header.nodes as u32;
+    let starts_at = edges_at + 3 * counts.header.edges as u32;
+    Refusal::Retiming(starts_at + 2)
 }
 
 // No byte is left.
@@ -296,8 +298,8 @@ fn tail(s: &[u8], at: usize) -> Refusal
 
 // After the last field: a schedule has a retiming 0, and no byte is left.
 fn end_of(s: &[u8], counts: Counts, retiming: [u8; 64], next: Cursor) -> Refusal
-    requires { ⌜ (counts .nodes ≤ 64) × (next .at ≤ 60000) ⌝ }
-    ensures { λ r. ⌜ r ≡ endOf (now (s .entry)) (record { form = withStarts (withCounts emptyForm (counts .classes) (counts .nodes) (counts .edges) (counts .length)) (replicate 64 noStep) retiming; next = next }) ⌝ }
+    requires { ⌜ (counts .header .nodes ≤ 64) × (next .at ≤ 60000) ⌝ }
+    ensures { λ r. ⌜ r ≡ endOf (now (s .entry)) (record { form = withStarts (withHeader emptyForm (counts .header)) (replicate 64 noStep) retiming; next = next }) ⌝ }
 {
     let refusal = next.refusal;
     let unnormalized = none_is_zero(counts, retiming);
@@ -331,18 +333,19 @@ pub fn read(s: &[u8]) -> Record
     ensures { λ r. ⌜ r ≡ readForm (now (s .entry)) ⌝ }
 {
     let counts = header(s);
-    let board = classes(s, counts.next, counts.classes);
+    let board = classes(s, counts.next, counts.header.classes);
     let class = board.class;
-    let operations = nodes(s, board.next, counts.classes, counts.nodes);
+    let operations = nodes(s, board.next, counts.header.classes, counts.header.nodes);
     let node = operations.node;
-    let graph = edges(s, operations.next, counts.nodes, counts.edges);
-    let scheduled = scheduled_nodes(counts.length, counts.nodes);
-    let schedule = starts(s, graph.next, counts.length, class, node, scheduled);
+    let graph = edges(s, operations.next, counts.header.nodes, counts.header.edges);
+    let scheduled = scheduled_nodes(counts.header.length, counts.header.nodes);
+    let schedule = starts(s, graph.next, counts.header.length, class, node, scheduled);
     let retiming = schedule.retiming;
     let refusal = end_of(s, counts, retiming, schedule.next);
     if !refusal.is_fine() {
         return refused(refusal);
     }
+    let header = counts.header;
     let from = graph.from;
     let to = graph.to;
     let delays = graph.delays;
@@ -350,10 +353,7 @@ pub fn read(s: &[u8]) -> Record
     Record {
         refusal,
         form: Form {
-            classes: counts.classes,
-            nodes: counts.nodes,
-            edges: counts.edges,
-            length: counts.length,
+            header,
             class,
             node,
             from,

@@ -82,23 +82,23 @@ module _ (f : Form) (h : Held f) where
     -- node v stands at its place of the table
     pub node-laid : (v : ℕ) → v < headNodes (layout f) → take 6 (drop (nodesFrom (layout f) + 6 * v) (layout f)) ≡ nodeBytes (nodeOf f v)
     node-laid v l =
-        let at : 11 + 3 * f .classes + 6 * v ≡ nodesFrom (layout f) + 6 * v = omega (arith, k .classes) in
+        let at : 11 + 3 * f .header .classes + 6 * v ≡ nodesFrom (layout f) + 6 * v = omega (arith, k .classes) in
         subst (λ (a : ℕ). take 6 (drop a (layout f)) ≡ nodeBytes (nodeOf f v)) at (node-slice f (k .fits) v (omega (arith, k .nodes)))
 
     -- edge e stands at its place of the table
     pub edge-laid : (e : ℕ) → e < headEdges (layout f) → take 3 (drop (edgesFrom (layout f) + 3 * e) (layout f)) ≡ edgeBytes (edgeOf f e)
     edge-laid e l =
-        let at : 11 + 3 * f .classes + 6 * f .nodes + 3 * e ≡ edgesFrom (layout f) + 3 * e = omega (arith, k .classes, k .nodes) in
+        let at : 11 + 3 * f .header .classes + 6 * f .header .nodes + 3 * e ≡ edgesFrom (layout f) + 3 * e = omega (arith, k .classes, k .nodes) in
         subst (λ (a : ℕ). take 3 (drop a (layout f)) ≡ edgeBytes (edgeOf f e)) at (edge-slice f (k .fits) e (omega (arith, k .edges)))
 
     -- as many starts are read as the form has
-    pub starts-same : headStarts (layout f) ≡ scheduledOf (f .length) (f .nodes)
+    pub starts-same : headStarts (layout f) ≡ scheduledOf (f .header .length) (f .header .nodes)
     starts-same = ap₂ scheduledOf (k .last) (k .nodes)
 
     -- the start of node v stands at its place of the table
     pub start-laid : (v : ℕ) → v < headStarts (layout f) → take 3 (drop (startsFrom (layout f) + 3 * v) (layout f)) ≡ slotBytes (slotOf f v)
     start-laid v l =
-        let at : 11 + 3 * f .classes + 6 * f .nodes + 3 * f .edges + 3 * v ≡ startsFrom (layout f) + 3 * v = omega (arith, k .classes, k .nodes, k .edges) in
+        let at : 11 + 3 * f .header .classes + 6 * f .header .nodes + 3 * f .header .edges + 3 * v ≡ startsFrom (layout f) + 3 * v = omega (arith, k .classes, k .nodes, k .edges) in
         subst (λ (a : ℕ). take 3 (drop a (layout f)) ≡ slotBytes (slotOf f v)) at (start-slice f (k .fits) v (omega (arith, starts-same)))
 
   -- the rows that are read so far are the form's
@@ -135,38 +135,35 @@ module _ (f : Form) (h : Held f) where
       let s : List ℕ = layout f in
       let g : Form = x .form in
       let k : Counts f h = counts f h (p .head) in
-      let edge : (i : ℕ) → i < f .edges → edgeOf g i ≡ edgeOf f i = λ i l. edge-agrees _ _ _ _ _ x p i (omega (arith, k .edges)) (omega (arith, k .edges)) in
-      let past : (i : ℕ) → f .edges ≤ i → edgeOf g i ≡ noEdge = λ i l. p .edge .rest i (omega (arith, k .edges)) in
-      let t : ℕ = scheduledOf (f .length) (f .nodes) in
+      let edge : (i : ℕ) → i < f .header .edges → edgeOf g i ≡ edgeOf f i = λ i l. edge-agrees _ _ _ _ _ x p i (omega (arith, k .edges)) (omega (arith, k .edges)) in
+      let past : (i : ℕ) → f .header .edges ≤ i → edgeOf g i ≡ noEdge = λ i l. p .edge .rest i (omega (arith, k .edges)) in
+      let t : ℕ = scheduledOf (f .header .length) (f .header .nodes) in
       let slot : (v : ℕ) → v < t → slotOf g v ≡ slotOf f v = λ v l. slot-agrees _ _ _ _ _ x p v (omega (arith, starts-same k)) (omega (arith, starts-same k)) in
       let free : (v : ℕ) → t ≤ v → slotOf g v ≡ noSlot = λ v l. p .start .rest v (omega (arith, starts-same k)) in
       λ i. record {
-        classes = (p .classes ∙ k .classes) i;
-        nodes = (p .nodes ∙ k .nodes) i;
-        edges = (p .edges ∙ k .edges) i;
-        length = (p .last ∙ k .last) i;
+        header = record { classes = (p .classes ∙ k .classes) i; nodes = (p .nodes ∙ k .nodes) i; edges = (p .edges ∙ k .edges) i; length = (p .last ∙ k .last) i };
         class =
-            first-is (f .classes) noClass (f .class) (g .class) (p .sized .class ∙ sym (h .sized .class))
+            first-is (f .header .classes) noClass (f .class) (g .class) (p .sized .class ∙ sym (h .sized .class))
             (λ j l. class-agrees _ _ _ _ _ x p j (omega (arith, k .classes)) (omega (arith, k .classes)))
             (λ j l. p .class .rest j (omega (arith, k .classes)))
             i;
         node =
-            first-is (f .nodes) noNode (f .node) (g .node) (p .sized .node ∙ sym (h .sized .node))
+            first-is (f .header .nodes) noNode (f .node) (g .node) (p .sized .node ∙ sym (h .sized .node))
             (λ j l. node-agrees _ _ _ _ _ x p j (omega (arith, k .nodes)) (omega (arith, k .nodes)))
             (λ j l. p .node .rest j (omega (arith, k .nodes)))
             i;
         from =
-            first-is (f .edges) 0 (f .from) (g .from) (p .sized .from ∙ sym (h .sized .from))
+            first-is (f .header .edges) 0 (f .from) (g .from) (p .sized .from ∙ sym (h .sized .from))
             (λ j l. ap (λ (q : Edge). q .from) (edge j l))
             (λ j l. ap (λ (q : Edge). q .from) (past j l))
             i;
         to =
-            first-is (f .edges) 0 (f .to) (g .to) (p .sized .to ∙ sym (h .sized .to))
+            first-is (f .header .edges) 0 (f .to) (g .to) (p .sized .to ∙ sym (h .sized .to))
             (λ j l. ap (λ (q : Edge). q .to) (edge j l))
             (λ j l. ap (λ (q : Edge). q .to) (past j l))
             i;
         delays =
-            first-is (f .edges) 0 (f .delays) (g .delays) (p .sized .delays ∙ sym (h .sized .delays))
+            first-is (f .header .edges) 0 (f .delays) (g .delays) (p .sized .delays ∙ sym (h .sized .delays))
             (λ j l. ap (λ (q : Edge). q .delays) (edge j l))
             (λ j l. ap (λ (q : Edge). q .delays) (past j l))
             i;

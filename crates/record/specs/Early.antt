@@ -86,6 +86,6 @@ module _ (s : List ℕ) where
       let x : Reading = startsRead s in
       let P : Refusal → Type 0 = λ r. numberOf r ≤ 10 in
       pick-ind P (fine (x .next .refusal)) _ _
-      (λ f. pick-ind P (normalized (x .form .length) (x .form .nodes) (x .form .retiming)) _ _
+      (λ f. pick-ind P (normalized (x .form .header .length) (x .form .header .nodes) (x .form .retiming)) _ _
       (λ n. pick-ind P (ltb (x .next .at) (length s)) _ _ (λ l. omega arith) (λ l. omega arith)) (λ n. omega arith))
       (λ f. starts-early)

@@ -40,10 +40,10 @@ pub record HeldEdge (k : Edge) : Type 0 where
 -- a form as the code holds it
 pub record Held (f : Form) : Type 0 where
   pub sized : Sized f
-  pub classes : f .classes < 256
-  pub nodes : f .nodes < 256
-  pub edges : f .edges < 65536
-  pub length : f .length < 65536
+  pub classes : f .header .classes < 256
+  pub nodes : f .header .nodes < 256
+  pub edges : f .header .edges < 65536
+  pub length : f .header .length < 65536
   pub class : (i : ℕ) → i < 4 → HeldClass (classOf f i)
   pub node : (v : ℕ) → v < 64 → HeldNode (nodeOf f v)
   pub edge : (e : ℕ) → e < 256 → HeldEdge (edgeOf f e)
@@ -52,6 +52,6 @@ pub record Held (f : Form) : Type 0 where
 
 -- the tables have places for their counts
 pub record CountsFit (f : Form) : Type 0 where
-  pub classes : f .classes ≤ 4
-  pub nodes : f .nodes ≤ 64
-  pub edges : f .edges ≤ 256
+  pub classes : f .header .classes ≤ 4
+  pub nodes : f .header .nodes ≤ 64
+  pub edges : f .header .edges ≤ 256

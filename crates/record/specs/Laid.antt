@@ -48,7 +48,7 @@ module _ (f : Form) (h : Held f) where
   node-off v x l p e =
       let k : Counts f h = counts f h (p .head) in
       let at : ℕ = nodesFrom (layout f) + 6 * v in
-      node-walks (Faulty f) (layout f) (x .next) at (at + 6) (walks-at (Faulty f) (x .next) at (p .next)) (x .form .classes) (nodeOf f v) (layout-bytes f h)
+      node-walks (Faulty f) (layout f) (x .next) at (at + 6) (walks-at (Faulty f) (x .next) at (p .next)) (x .form .header .classes) (nodeOf f v) (layout-bytes f h)
       (node-laid f h k v l) refl
       (λ never a.
       record {
@@ -63,7 +63,7 @@ module _ (f : Form) (h : Held f) where
   edge-off i x l p e =
       let k : Counts f h = counts f h (p .head) in
       let at : ℕ = edgesFrom (layout f) + 3 * i in
-      edge-walks (Faulty f) (layout f) (x .next) at (at + 3) (walks-at (Faulty f) (x .next) at (p .next)) (x .form .nodes) (edgeOf f i)
+      edge-walks (Faulty f) (layout f) (x .next) at (at + 3) (walks-at (Faulty f) (x .next) at (p .next)) (x .form .header .nodes) (edgeOf f i)
       (edge-laid f h k i l) refl
       (λ never a.
       record {
@@ -86,11 +86,11 @@ module _ (f : Form) (h : Held f) where
       let k : Counts f h = counts f h (p .head) in
       let at : ℕ = startsFrom (layout f) + 3 * v in
       let m : v < headNodes (layout f) = omega (arith, scheduled-le (headLength (layout f)) (headNodes (layout f))) in
-      let ne : f .length ≢ 0 = λ z. omega (arith, starts-same f h k, scheduled-none (f .length) (f .nodes) z) in
-      let never : WellFormed f → GoodSlot (x .form .length) (latencyOf (x .form) v) (slotOf f v) = λ w.
+      let ne : f .header .length ≢ 0 = λ z. omega (arith, starts-same f h k, scheduled-none (f .header .length) (f .header .nodes) z) in
+      let never : WellFormed f → GoodSlot (x .form .header .length) (latencyOf (x .form) v) (slotOf f v) = λ w.
       let g : GoodStart f v = w .schedule ne .starts v (omega (arith, k .nodes)) in
       record { begins = g .begins; ends = omega (arith, g .ends, latency-agrees v x p m, p .last, k .last); retiming = g .retiming } in
-      start-walks (Faulty f) (layout f) (x .next) at (at + 3) (walks-at (Faulty f) (x .next) at (p .next)) (x .form .length) (latencyOf (x .form) v) (slotOf f v)
+      start-walks (Faulty f) (layout f) (x .next) at (at + 3) (walks-at (Faulty f) (x .next) at (p .next)) (x .form .header .length) (latencyOf (x .form) v) (slotOf f v)
       (h .start v (omega (arith, p .head .nodes))) (start-laid f h k v l) refl
       (λ no a. (record { low = omega arith; high = omega arith; never = λ w. no (never w) }, record { low = omega arith; high = omega arith; never = λ w. no (never w) }))
       .off e

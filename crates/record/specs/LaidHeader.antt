@@ -34,10 +34,10 @@ pub record HeaderNumbers (f : Form) (s : List ℕ) : Type 0 where
   pub room : 11 ≤ length s
   pub mark : numberAt 3 s 0 ≡ 4936530
   pub version : numberAt 2 s 3 ≡ 1
-  pub classes : numberAt 1 s 5 ≡ f .classes
-  pub nodes : numberAt 1 s 6 ≡ f .nodes
-  pub edges : numberAt 2 s 7 ≡ f .edges
-  pub last : numberAt 2 s 9 ≡ f .length
+  pub classes : numberAt 1 s 5 ≡ f .header .classes
+  pub nodes : numberAt 1 s 6 ≡ f .header .nodes
+  pub edges : numberAt 2 s 7 ≡ f .header .edges
+  pub last : numberAt 2 s 9 ≡ f .header .length
 
 module _ (f : Form) (h : Held f) where
   header-numbers : HeaderNumbers f (layout f)
@@ -55,19 +55,19 @@ module _ (f : Form) (h : Held f) where
 
   -- the counts that are read are those of the form
   pub record Counts : Type 0 where
-    pub classes : headClasses (layout f) ≡ f .classes
-    pub nodes : headNodes (layout f) ≡ f .nodes
-    pub edges : headEdges (layout f) ≡ f .edges
-    pub last : headLength (layout f) ≡ f .length
+    pub classes : headClasses (layout f) ≡ f .header .classes
+    pub nodes : headNodes (layout f) ≡ f .header .nodes
+    pub edges : headEdges (layout f) ≡ f .header .edges
+    pub last : headLength (layout f) ≡ f .header .length
     pub fits : CountsFit f
 
   -- a header that is read has the form's counts
   pub counts : Head (layout f) → Counts
   counts p =
       let t : HeaderNumbers f (layout f) = header-numbers in
-      let c : headClasses (layout f) ≡ f .classes = p .classes-is ∙ t .classes in
-      let n : headNodes (layout f) ≡ f .nodes = p .nodes-is ∙ t .nodes in
-      let e : headEdges (layout f) ≡ f .edges = p .edges-is ∙ t .edges in
+      let c : headClasses (layout f) ≡ f .header .classes = p .classes-is ∙ t .classes in
+      let n : headNodes (layout f) ≡ f .header .nodes = p .nodes-is ∙ t .nodes in
+      let e : headEdges (layout f) ≡ f .header .edges = p .edges-is ∙ t .edges in
       record {
         classes = c;
         nodes = n;

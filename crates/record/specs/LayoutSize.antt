@@ -14,6 +14,7 @@ use Rattle.form.specs.declared.Edge.{Edge}
 use Rattle.form.specs.declared.Operation.{Operation}
 use Rattle.form.specs.declared.Operation.the-variants.{Add, Sub, Mul}
 use Rattle.form.specs.Places.{classOf, nodeOf, edgeOf, startOf, retimingOf, scheduled, scheduledOf}
+use Rattle.form.specs.Offsets.{sizeOf}
 use Rattle.form.specs.Ranges.{WellFormed}
 use Rattle.field.specs.Number.{Bytes, bytesOf}
 use Rattle.writer.specs.Layout.{codeOf, constantOf, classBytes, nodeBytes, edgeBytes, startBytes, countBytes, headerBytes, classRows, nodeRows, edgeRows, startRows, layout}
@@ -57,17 +58,17 @@ code-lt (Mul k) = omega arith
 
 module _ (f : Form) where
   -- the classes' room
-  pub classes-width : length (classRows f) ≡ 3 * min (f .classes) 4
+  pub classes-width : length (classRows f) ≡ 3 * min (f .header .classes) 4
   unfolding classRows
   classes-width = rows-length _ 3 (λ i. class-width (classOf f i)) _
 
   -- the nodes' room
-  pub nodes-width : length (nodeRows f) ≡ 6 * min (f .nodes) 64
+  pub nodes-width : length (nodeRows f) ≡ 6 * min (f .header .nodes) 64
   unfolding nodeRows
   nodes-width = rows-length _ 6 (λ i. node-width (nodeOf f i)) _
 
   -- the edges' room
-  pub edges-width : length (edgeRows f) ≡ 3 * min (f .edges) 256
+  pub edges-width : length (edgeRows f) ≡ 3 * min (f .header .edges) 256
   unfolding edgeRows
   edges-width = rows-length _ 3 (λ i. edge-width (edgeOf f i)) _
 
@@ -76,7 +77,7 @@ module _ (f : Form) where
   unfolding startRows
   starts-width = rows-length _ 3 (λ i. start-width (startOf f i) (retimingOf f i)) _
 
-  layout-width : length (layout f) ≡ 11 + 3 * min (f .classes) 4 + 6 * min (f .nodes) 64 + 3 * min (f .edges) 256 + 3 * min (scheduled f) 64
+  layout-width : length (layout f) ≡ 11 + 3 * min (f .header .classes) 4 + 6 * min (f .header .nodes) 64 + 3 * min (f .header .edges) 256 + 3 * min (scheduled f) 64
   unfolding layout
   layout-width = simp (length-append, header-width, classes-width, nodes-width, edges-width, starts-width) (omega arith)
 
@@ -84,12 +85,12 @@ module _ (f : Form) where
   pub layout-short : length (layout f) ≤ 1367
   layout-short = omega (arith, layout-width)
 
-  -- a form with places for its counts takes 11 bytes and its rows
-  pub fits-length : CountsFit f → length (layout f) ≡ 11 + 3 * f .classes + 6 * f .nodes + 3 * f .edges + 3 * scheduled f
-  fits-length w = omega (arith, layout-width, scheduled-le (f .length) (f .nodes))
+  -- a form with places for its counts takes the bytes that its header says
+  pub fits-length : CountsFit f → length (layout f) ≡ sizeOf (f .header)
+  fits-length w = omega (arith, layout-width, scheduled-le (f .header .length) (f .header .nodes))
 
-  -- a well-formed form takes 11 bytes, 3 a class, 6 a node, 3 an edge and, with a schedule, 3 a node more
-  pub layout-length : WellFormed f → length (layout f) ≡ 11 + 3 * f .classes + 6 * f .nodes + 3 * f .edges + 3 * scheduled f
+  -- and so does a well-formed one
+  pub layout-length : WellFormed f → length (layout f) ≡ sizeOf (f .header)
   layout-length w = fits-length (record { classes = w .classes .1; nodes = w .nodes .1; edges = w .edges })
 
   module _ (h : Held f) where
@@ -126,10 +127,10 @@ module _ (f : Form) where
     header-bytes : Bytes (headerBytes f)
     unfolding countBytes
     header-bytes =
-        let t : List ℕ = bytesOf 2 (f .edges) ++ bytesOf 2 (f .length) in
-        bytes-append (82 ∷ 83 ∷ 75 ∷ []) (1 ∷ 0 ∷ f .classes ∷ f .nodes ∷ t) (bytes-three 82 83 75 (omega arith) (omega arith) (omega arith))
-        (bytes-append (1 ∷ 0 ∷ f .classes ∷ []) (f .nodes ∷ t) (bytes-three 1 0 (f .classes) (omega arith) (omega arith) (h .classes))
-        (bytes-cons (f .nodes) t (h .nodes) (bytes-append (bytesOf 2 (f .edges)) (bytesOf 2 (f .length)) (bytes-of 2 (f .edges)) (bytes-of 2 (f .length)))))
+        let t : List ℕ = bytesOf 2 (f .header .edges) ++ bytesOf 2 (f .header .length) in
+        bytes-append (82 ∷ 83 ∷ 75 ∷ []) (1 ∷ 0 ∷ f .header .classes ∷ f .header .nodes ∷ t) (bytes-three 82 83 75 (omega arith) (omega arith) (omega arith))
+        (bytes-append (1 ∷ 0 ∷ f .header .classes ∷ []) (f .header .nodes ∷ t) (bytes-three 1 0 (f .header .classes) (omega arith) (omega arith) (h .classes))
+        (bytes-cons (f .header .nodes) t (h .nodes) (bytes-append (bytesOf 2 (f .header .edges)) (bytesOf 2 (f .header .length)) (bytes-of 2 (f .header .edges)) (bytes-of 2 (f .header .length)))))
 
     -- every element of a held form's layout is a byte
     pub layout-bytes : Bytes (layout f)

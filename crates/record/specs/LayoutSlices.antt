@@ -8,6 +8,7 @@ use lib.ListN.{length, take, drop, length-append}
 use lib.Seq.{take-at}
 use Rattle.form.specs.declared.Form.{Form}
 use Rattle.form.specs.Places.{classOf, nodeOf, edgeOf, startOf, retimingOf, scheduled}
+use Rattle.form.specs.Offsets.{nodesAt, edgesAt, startsAt}
 use Rattle.writer.specs.Layout.{classBytes, nodeBytes, edgeBytes, startBytes, headerBytes, classRows, nodeRows, edgeRows, startRows, layout}
 use Rattle.record.specs.Held.{CountsFit}
 use Rattle.record.specs.Rows.{rows-slice}
@@ -21,7 +22,7 @@ module _ (f : Form) where
 
   module _ (h : CountsFit f) where
     -- class i is a slice of the layout
-    pub class-slice : (i : ℕ) → i < f .classes → take 3 (drop (11 + 3 * i) (layout f)) ≡ classBytes (classOf f i)
+    pub class-slice : (i : ℕ) → i < f .header .classes → take 3 (drop (11 + 3 * i) (layout f)) ≡ classBytes (classOf f i)
     unfolding layout classRows
     class-slice i l =
         rows-slice (λ j. classBytes (classOf f j)) 3 (λ j. class-width (classOf f j)) (headerBytes f) _ 11 _ i (header-width f) (omega arith)
@@ -36,27 +37,27 @@ module _ (f : Form) where
     beforeStarts : List ℕ
     beforeStarts = beforeEdges ++ edgeRows f
 
-    nodes-from : length beforeNodes ≡ 11 + 3 * f .classes
+    nodes-from : length beforeNodes ≡ nodesAt (f .header)
     unfolding beforeNodes
     nodes-from = simp (length-append, header-width, classes-width) (omega arith)
 
-    edges-from : length beforeEdges ≡ 11 + 3 * f .classes + 6 * f .nodes
+    edges-from : length beforeEdges ≡ edgesAt (f .header)
     unfolding beforeEdges
     edges-from = simp (length-append, nodes-from, nodes-width) (omega arith)
 
-    starts-from : length beforeStarts ≡ 11 + 3 * f .classes + 6 * f .nodes + 3 * f .edges
+    starts-from : length beforeStarts ≡ startsAt (f .header)
     unfolding beforeStarts
     starts-from = simp (length-append, edges-from, edges-width) (omega arith)
 
     -- node v is a slice of the layout
-    pub node-slice : (v : ℕ) → v < f .nodes → take 6 (drop (11 + 3 * f .classes + 6 * v) (layout f)) ≡ nodeBytes (nodeOf f v)
+    pub node-slice : (v : ℕ) → v < f .header .nodes → take 6 (drop (nodesAt (f .header) + 6 * v) (layout f)) ≡ nodeBytes (nodeOf f v)
     unfolding layout beforeNodes nodeRows
     node-slice v l =
         rw (← append-assoc (headerBytes f) (classRows f) (nodeRows f ++ (edgeRows f ++ startRows f)))
         (rows-slice (λ j. nodeBytes (nodeOf f j)) 6 (λ j. node-width (nodeOf f j)) beforeNodes _ _ _ v nodes-from (omega arith))
 
     -- edge e is a slice of the layout
-    pub edge-slice : (e : ℕ) → e < f .edges → take 3 (drop (11 + 3 * f .classes + 6 * f .nodes + 3 * e) (layout f)) ≡ edgeBytes (edgeOf f e)
+    pub edge-slice : (e : ℕ) → e < f .header .edges → take 3 (drop (edgesAt (f .header) + 3 * e) (layout f)) ≡ edgeBytes (edgeOf f e)
     unfolding layout beforeNodes beforeEdges edgeRows
     edge-slice e l =
         rw (
@@ -67,7 +68,7 @@ module _ (f : Form) where
 
     -- the start and the retiming of node v are a slice of the layout
     pub start-slice : (v : ℕ) → v < scheduled f
-        → take 3 (drop (11 + 3 * f .classes + 6 * f .nodes + 3 * f .edges + 3 * v) (layout f)) ≡ startBytes (startOf f v) (retimingOf f v)
+        → take 3 (drop (startsAt (f .header) + 3 * v) (layout f)) ≡ startBytes (startOf f v) (retimingOf f v)
     unfolding layout beforeNodes beforeEdges beforeStarts startRows
     start-slice v l =
         rw (
@@ -76,4 +77,4 @@ module _ (f : Form) where
           ← append-assoc beforeEdges (edgeRows f) (startRows f),
           ← append-nil (startRows f),
         )
-        (rows-slice (λ j. startBytes (startOf f j) (retimingOf f j)) 3 (λ j. start-width (startOf f j) (retimingOf f j)) beforeStarts [] _ _ v starts-from (omega (arith, scheduled-le (f .length) (f .nodes))))
+        (rows-slice (λ j. startBytes (startOf f j) (retimingOf f j)) 3 (λ j. start-width (startOf f j) (retimingOf f j)) beforeStarts [] _ _ v starts-from (omega (arith, scheduled-le (f .header .length) (f .header .nodes))))

@@ -32,17 +32,17 @@ use Rattle.record.specs.Least.{some-zero, normal-some, scheduled-all}
 slices : (s : List ℕ) (at n m : ℕ) → take n (drop at s) ++ take m (drop (at + n) s) ≡ take (n + m) (drop at s)
 slices s at n m = rw (take-add n m (drop at s), drop-drop n at s)
 
-header-same : (f g : Form) → f .classes ≡ g .classes → f .nodes ≡ g .nodes → f .edges ≡ g .edges → f .length ≡ g .length → headerBytes f ≡ headerBytes g
+header-same : (f g : Form) → f .header .classes ≡ g .header .classes → f .header .nodes ≡ g .header .nodes → f .header .edges ≡ g .header .edges → f .header .length ≡ g .header .length → headerBytes f ≡ headerBytes g
 unfolding countBytes
 header-same f g c n e l = rw (c, n, e, l)
 
 -- a record of which every row is read
 module _ (s : List ℕ) (x : Reading) (p : StartsSofar s (headStarts s) x) where
-  starts-is : scheduledOf (x .form .length) (x .form .nodes) ≡ headStarts s
+  starts-is : scheduledOf (x .form .header .length) (x .form .header .nodes) ≡ headStarts s
   starts-is = ap₂ scheduledOf (p .last) (p .nodes)
 
   -- it is well-formed
-  pub whole-well-formed : normalized (x .form .length) (x .form .nodes) (x .form .retiming) ≡ true → WellFormed (x .form)
+  pub whole-well-formed : normalized (x .form .header .length) (x .form .header .nodes) (x .form .retiming) ≡ true → WellFormed (x .form)
   whole-well-formed normal =
       record {
         classes = omega (arith, p .classes, p .head .classes);
@@ -56,9 +56,9 @@ module _ (s : List ℕ) (x : Reading) (p : StartsSofar s (headStarts s) x) where
             λ ne. record {
               starts =
                   λ v l.
-                  let g = p .start .good v (omega (arith, starts-is, scheduled-all (x .form .length) (x .form .nodes) ne)) in
+                  let g = p .start .good v (omega (arith, starts-is, scheduled-all (x .form .header .length) (x .form .header .nodes) ne)) in
                   record { begins = g .begins; ends = omega (arith, g .ends, p .last); retiming = g .retiming };
-              least = some-zero (x .form .nodes) (x .form .retiming) (sym (normal-some (x .form .length) (x .form .nodes) (x .form .retiming) ne) ∙ normal);
+              least = some-zero (x .form .header .nodes) (x .form .retiming) (sym (normal-some (x .form .header .length) (x .form .header .nodes) (x .form .retiming) ne) ∙ normal);
             };
       }
 
@@ -67,19 +67,16 @@ module _ (s : List ℕ) (x : Reading) (p : StartsSofar s (headStarts s) x) where
   unfolding used
   whole-used =
       let f : Form = x .form in
-      let t : ℕ = scheduledOf (f .length) (f .nodes) in
-      let edge : (i : ℕ) → f .edges ≤ i → edgeOf f i ≡ noEdge = λ i l. p .edge .rest i (omega (arith, p .edges)) in
+      let t : ℕ = scheduledOf (f .header .length) (f .header .nodes) in
+      let edge : (i : ℕ) → f .header .edges ≤ i → edgeOf f i ≡ noEdge = λ i l. p .edge .rest i (omega (arith, p .edges)) in
       let slot : (v : ℕ) → t ≤ v → slotOf f v ≡ noSlot = λ v l. p .start .rest v (omega (arith, starts-is)) in
       λ i. record {
-        classes = f .classes;
-        nodes = f .nodes;
-        edges = f .edges;
-        length = f .length;
-        class = first-self (f .classes) noClass (f .class) (λ j l. p .class .rest j (omega (arith, p .classes))) i;
-        node = first-self (f .nodes) noNode (f .node) (λ v l. p .node .rest v (omega (arith, p .nodes))) i;
-        from = first-self (f .edges) 0 (f .from) (λ e l. ap (λ (k : Edge). k .from) (edge e l)) i;
-        to = first-self (f .edges) 0 (f .to) (λ e l. ap (λ (k : Edge). k .to) (edge e l)) i;
-        delays = first-self (f .edges) 0 (f .delays) (λ e l. ap (λ (k : Edge). k .delays) (edge e l)) i;
+        header = f .header;
+        class = first-self (f .header .classes) noClass (f .class) (λ j l. p .class .rest j (omega (arith, p .classes))) i;
+        node = first-self (f .header .nodes) noNode (f .node) (λ v l. p .node .rest v (omega (arith, p .nodes))) i;
+        from = first-self (f .header .edges) 0 (f .from) (λ e l. ap (λ (k : Edge). k .from) (edge e l)) i;
+        to = first-self (f .header .edges) 0 (f .to) (λ e l. ap (λ (k : Edge). k .to) (edge e l)) i;
+        delays = first-self (f .header .edges) 0 (f .delays) (λ e l. ap (λ (k : Edge). k .delays) (edge e l)) i;
         start = first-self t noStep (f .start) (λ v l. ap (λ (k : Slot). k .start) (slot v l)) i;
         retiming = first-self t 0 (f .retiming) (λ v l. ap (λ (k : Slot). k .retiming) (slot v l)) i;
       }
@@ -87,25 +84,25 @@ module _ (s : List ℕ) (x : Reading) (p : StartsSofar s (headStarts s) x) where
   class-rows : classRows (x .form) ≡ take (3 * headClasses s) (drop 11 s)
   unfolding classRows
   class-rows =
-      let m : min (x .form .classes) 4 ≡ headClasses s = omega (arith, p .classes, p .head .classes) in
+      let m : min (x .form .header .classes) 4 ≡ headClasses s = omega (arith, p .classes, p .head .classes) in
       rw m (rows-cut _ 3 s 11 (headClasses s) (p .class .laid))
 
   node-rows : nodeRows (x .form) ≡ take (6 * headNodes s) (drop (nodesFrom s) s)
   unfolding nodeRows
   node-rows =
-      let m : min (x .form .nodes) 64 ≡ headNodes s = omega (arith, p .nodes, p .head .nodes) in
+      let m : min (x .form .header .nodes) 64 ≡ headNodes s = omega (arith, p .nodes, p .head .nodes) in
       rw m (rows-cut _ 6 s (nodesFrom s) (headNodes s) (p .node .laid))
 
   edge-rows : edgeRows (x .form) ≡ take (3 * headEdges s) (drop (edgesFrom s) s)
   unfolding edgeRows
   edge-rows =
-      let m : min (x .form .edges) 256 ≡ headEdges s = omega (arith, p .edges, p .head .edges) in
+      let m : min (x .form .header .edges) 256 ≡ headEdges s = omega (arith, p .edges, p .head .edges) in
       rw m (rows-cut _ 3 s (edgesFrom s) (headEdges s) (p .edge .laid))
 
   start-rows : startRows (x .form) ≡ take (3 * headStarts s) (drop (startsFrom s) s)
   unfolding startRows
   start-rows =
-      let m : min (scheduledOf (x .form .length) (x .form .nodes)) 64 ≡ headStarts s = omega (arith, starts-is, scheduled-le (headLength s) (headNodes s), p .head .nodes) in
+      let m : min (scheduledOf (x .form .header .length) (x .form .header .nodes)) 64 ≡ headStarts s = omega (arith, starts-is, scheduled-le (headLength s) (headNodes s), p .head .nodes) in
       rw m (rows-cut _ 3 s (startsFrom s) (headStarts s) (p .start .laid))
 
   -- it is laid out as its bytes

@@ -57,34 +57,34 @@ module _ (s : List ℕ) (b : Bytes s) (Q : Refusal → Type 0)
   nodes-run : Runs (NodesSofar s (headNodes s)) Q (nodesRead s)
   unfolding nodesRead
   nodes-run =
-      runs-on (nodeStep s) (classesRead s .form .nodes) 0 (classesRead s) classes-run
+      runs-on (nodeStep s) (classesRead s .form .header .nodes) 0 (classesRead s) classes-run
       (λ f p.
-      table-runs (nodeStep s) (NodesSofar s) Q (headNodes s) (λ v x l q. record { on = node-on s b v x l q; off = node-off v x l q }) (classesRead s .form .nodes) 0 (classesRead s) (omega (arith, p .nodes)) f
+      table-runs (nodeStep s) (NodesSofar s) Q (headNodes s) (λ v x l q. record { on = node-on s b v x l q; off = node-off v x l q }) (classesRead s .form .header .nodes) 0 (classesRead s) (omega (arith, p .nodes)) f
       (moved s (headClasses s) 0 0 0 _ (nodesFrom s + 6 * 0) (classesRead s) (omega arith) p))
 
   edges-run : Runs (EdgesSofar s (headEdges s)) Q (edgesRead s)
   unfolding edgesRead
   edges-run =
-      runs-on (edgeStep s) (nodesRead s .form .edges) 0 (nodesRead s) nodes-run
+      runs-on (edgeStep s) (nodesRead s .form .header .edges) 0 (nodesRead s) nodes-run
       (λ f p.
-      table-runs (edgeStep s) (EdgesSofar s) Q (headEdges s) (λ e x l q. record { on = edge-on s b e x l q; off = edge-off e x l q }) (nodesRead s .form .edges) 0 (nodesRead s) (omega (arith, p .edges)) f
+      table-runs (edgeStep s) (EdgesSofar s) Q (headEdges s) (λ e x l q. record { on = edge-on s b e x l q; off = edge-off e x l q }) (nodesRead s .form .header .edges) 0 (nodesRead s) (omega (arith, p .edges)) f
       (moved s (headClasses s) (headNodes s) 0 0 _ (edgesFrom s + 3 * 0) (nodesRead s) (omega arith) p))
 
   -- a whole record: all of its rows are read, or Q of the refusal
   pub starts-run : Runs (StartsSofar s (headStarts s)) Q (startsRead s)
   unfolding startsRead
   starts-run =
-      runs-on (startStep s) (scheduledOf (edgesRead s .form .length) (edgesRead s .form .nodes)) 0 (edgesRead s) edges-run
+      runs-on (startStep s) (scheduledOf (edgesRead s .form .header .length) (edgesRead s .form .header .nodes)) 0 (edgesRead s) edges-run
       (λ f p.
       table-runs (startStep s) (StartsSofar s) Q (headStarts s)
       (λ v x l q. record { on = start-on s b v x (omega (arith, scheduled-le (headLength s) (headNodes s))) q; off = start-off v x l q })
-      (scheduledOf (edgesRead s .form .length) (edgesRead s .form .nodes)) 0 (edgesRead s) (omega (arith, ap₂ scheduledOf (p .last) (p .nodes))) f
+      (scheduledOf (edgesRead s .form .header .length) (edgesRead s .form .header .nodes)) 0 (edgesRead s) (omega (arith, ap₂ scheduledOf (p .last) (p .nodes))) f
       (moved s (headClasses s) (headNodes s) (headEdges s) 0 _ (startsFrom s + 3 * 0) (edgesRead s) (omega arith) p))
 
 -- what a fine end tells
 pub record Ended (s : List ℕ) (x : Reading) (r : Refusal) : Type 0 where
   pub begun : fine (x .next .refusal) ≡ true
-  pub normal : normalized (x .form .length) (x .form .nodes) (x .form .retiming) ≡ true
+  pub normal : normalized (x .form .header .length) (x .form .header .nodes) (x .form .retiming) ≡ true
   pub whole : length s ≤ x .next .at
   pub none : r ≡ None
 
@@ -94,7 +94,7 @@ unfolding endOf fine
 ended s x =
     let P : Refusal → Type 0 = λ r. fine r ≡ true → Ended s x r in
     pick-ind P (fine (x .next .refusal)) _ _
-    (λ f. pick-ind P (normalized (x .form .length) (x .form .nodes) (x .form .retiming)) _ _
+    (λ f. pick-ind P (normalized (x .form .header .length) (x .form .header .nodes) (x .form .retiming)) _ _
     (λ n. pick-ind P (ltb (x .next .at) (length s)) _ _ (λ l e. both-ways e refl)
     (λ l e. record { begun = f; normal = n; whole = ltb-false (x .next .at) (length s) l; none = refl }))
     (λ n e. both-ways e refl))

@@ -20,14 +20,14 @@ use Rattle.record.specs.Fields.{Got, begun, got, slice-cons}
 pub record Head (s : List ℕ) : Type 0 where
   pub next : headerOf s .next ≡ onward 11
   pub room : 11 ≤ length s
-  pub classes : Within 1 4 (headerOf s .form .classes)
-  pub nodes : Within 1 64 (headerOf s .form .nodes)
-  pub edges : headerOf s .form .edges ≤ 256
-  pub last : headerOf s .form .length ≤ 512
-  pub classes-is : headerOf s .form .classes ≡ numberAt 1 s 5
-  pub nodes-is : headerOf s .form .nodes ≡ numberAt 1 s 6
-  pub edges-is : headerOf s .form .edges ≡ numberAt 2 s 7
-  pub last-is : headerOf s .form .length ≡ numberAt 2 s 9
+  pub classes : Within 1 4 (headerOf s .form .header .classes)
+  pub nodes : Within 1 64 (headerOf s .form .header .nodes)
+  pub edges : headerOf s .form .header .edges ≤ 256
+  pub last : headerOf s .form .header .length ≤ 512
+  pub classes-is : headerOf s .form .header .classes ≡ numberAt 1 s 5
+  pub nodes-is : headerOf s .form .header .nodes ≡ numberAt 1 s 6
+  pub edges-is : headerOf s .form .header .edges ≡ numberAt 2 s 7
+  pub last-is : headerOf s .form .header .length ≡ numberAt 2 s 9
   pub laid : headerBytes (headerOf s .form) ≡ take 11 s
 
 module _ (s : List ℕ) (b : Bytes s) where

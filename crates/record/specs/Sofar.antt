@@ -11,6 +11,7 @@ use Rattle.answer.specs.Refused.{fine}
 use Rattle.form.specs.declared.Form.{Form}
 use Rattle.form.specs.declared.Edge.{Edge}
 use Rattle.form.specs.Places.{noClass, noNode, noStep, emptyForm, classOf, nodeOf, edgeOf, latencyOf}
+use Rattle.form.specs.Offsets.{nodesAt, edgesAt, startsAt}
 use Rattle.form.specs.Ranges.{GoodClass, GoodEdge}
 use Rattle.field.specs.Number.{Bytes}
 use Rattle.field.specs.Taking.{onward}
@@ -27,25 +28,25 @@ use Rattle.record.specs.ReadRows.{GoodNode, Slot, slotBytes, GoodSlot, R
 -- the counts that the header has, and where each table begins by them
 module _ (s : List ℕ) where
   abbrev pub headClasses : ℕ
-  headClasses = headerOf s .form .classes
+  headClasses = headerOf s .form .header .classes
 
   abbrev pub headNodes : ℕ
-  headNodes = headerOf s .form .nodes
+  headNodes = headerOf s .form .header .nodes
 
   abbrev pub headEdges : ℕ
-  headEdges = headerOf s .form .edges
+  headEdges = headerOf s .form .header .edges
 
   abbrev pub headLength : ℕ
-  headLength = headerOf s .form .length
+  headLength = headerOf s .form .header .length
 
   abbrev pub nodesFrom : ℕ
-  nodesFrom = 11 + 3 * headClasses
+  nodesFrom = nodesAt (headerOf s .form .header)
 
   abbrev pub edgesFrom : ℕ
-  edgesFrom = nodesFrom + 6 * headNodes
+  edgesFrom = edgesAt (headerOf s .form .header)
 
   abbrev pub startsFrom : ℕ
-  startsFrom = edgesFrom + 3 * headEdges
+  startsFrom = startsAt (headerOf s .form .header)
 
 -- an unused edge, start and retiming
 abbrev pub noEdge : Edge
@@ -63,10 +64,10 @@ pub record ReadSofar (s : List ℕ) (c n e t at : ℕ) (x : Reading) : Type 0 wh
   pub head : Head s
   pub sized : Sized (x .form)
   pub next : x .next ≡ onward at
-  pub classes : x .form .classes ≡ headClasses s
-  pub nodes : x .form .nodes ≡ headNodes s
-  pub edges : x .form .edges ≡ headEdges s
-  pub last : x .form .length ≡ headLength s
+  pub classes : x .form .header .classes ≡ headClasses s
+  pub nodes : x .form .header .nodes ≡ headNodes s
+  pub edges : x .form .header .edges ≡ headEdges s
+  pub last : x .form .header .length ≡ headLength s
   pub class : Cells s 11 3 classBytes (λ i. GoodClass) noClass c (classOf (x .form))
   pub node : Cells s (nodesFrom s) 6 nodeBytes (λ v. GoodNode (headClasses s)) noNode n (nodeOf (x .form))
   pub edge : Cells s (edgesFrom s) 3 edgeBytes (λ i. GoodEdge (headNodes s)) noEdge e (edgeOf (x .form))
@@ -148,7 +149,7 @@ module _ (s : List ℕ) (b : Bytes s) where
   node-on v x l p f =
       let at : ℕ = nodesFrom s + 6 * v in
       let to : ℕ = nodesFrom s + 6 * suc v in
-      let classes : ℕ = x .form .classes in
+      let classes : ℕ = x .form .header .classes in
       let r : RowRead s at to 6 nodeBytes (GoodNode classes) (nodeAt s (x .next) classes .next) (nodeAt s (x .next) classes .node) =
       node-row s b (x .next) at to (p .next) classes (omega (arith, p .classes, p .head .classes)) (omega arith) f in
       let k : v < length (x .form .node) = omega (arith, p .sized .node, p .head .nodes) in
@@ -187,7 +188,7 @@ module _ (s : List ℕ) (b : Bytes s) where
   edge-on e x l p f =
       let at : ℕ = edgesFrom s + 3 * e in
       let to : ℕ = edgesFrom s + 3 * suc e in
-      let nodes : ℕ = x .form .nodes in
+      let nodes : ℕ = x .form .header .nodes in
       let new : Edge = edgeAt s (x .next) nodes .edge in
       let r : RowRead s at to 3 edgeBytes (GoodEdge nodes) (edgeAt s (x .next) nodes .next) new =
       edge-row s b (x .next) at to (p .next) nodes (omega (arith, p .nodes, p .head .nodes)) (omega arith) f in
@@ -236,7 +237,7 @@ module _ (s : List ℕ) (b : Bytes s) where
       let at : ℕ = startsFrom s + 3 * v in
       let to : ℕ = startsFrom s + 3 * suc v in
       let latency : ℕ = latencyOf (x .form) v in
-      let last : ℕ = x .form .length in
+      let last : ℕ = x .form .header .length in
       let new : Slot = record { start = startAt s (x .next) last latency .start; retiming = startAt s (x .next) last latency .retiming } in
       let r : RowRead s at to 3 slotBytes (GoodSlot last latency) (startAt s (x .next) last latency .next) new =
       start-row s b (x .next) at to (p .next) last latency (omega arith) f in

@@ -16,40 +16,40 @@ use Rattle.record.specs.FirstOf.{first-at}
 use Rattle.record.specs.Least.{scheduled-all}
 
 module _ (f : Form) (z : Sized f) (w : WellFormed (used f)) where
-  class-used : (i : ℕ) → i < f .classes → classOf (used f) i ≡ classOf f i
+  class-used : (i : ℕ) → i < f .header .classes → classOf (used f) i ≡ classOf f i
   unfolding used
-  class-used i l = first-at (f .classes) noClass (f .class) i l (omega (arith, z .class, w .classes))
+  class-used i l = first-at (f .header .classes) noClass (f .class) i l (omega (arith, z .class, w .classes))
 
-  node-used : (v : ℕ) → v < f .nodes → nodeOf (used f) v ≡ nodeOf f v
+  node-used : (v : ℕ) → v < f .header .nodes → nodeOf (used f) v ≡ nodeOf f v
   unfolding used
-  node-used v l = first-at (f .nodes) noNode (f .node) v l (omega (arith, z .node, w .nodes))
+  node-used v l = first-at (f .header .nodes) noNode (f .node) v l (omega (arith, z .node, w .nodes))
 
-  edge-used : (e : ℕ) → e < f .edges → edgeOf (used f) e ≡ edgeOf f e
+  edge-used : (e : ℕ) → e < f .header .edges → edgeOf (used f) e ≡ edgeOf f e
   unfolding used
   edge-used e l =
       λ i. record {
-        from = first-at (f .edges) 0 (f .from) e l (omega (arith, z .from, w .edges)) i;
-        to = first-at (f .edges) 0 (f .to) e l (omega (arith, z .to, w .edges)) i;
-        delays = first-at (f .edges) 0 (f .delays) e l (omega (arith, z .delays, w .edges)) i;
+        from = first-at (f .header .edges) 0 (f .from) e l (omega (arith, z .from, w .edges)) i;
+        to = first-at (f .header .edges) 0 (f .to) e l (omega (arith, z .to, w .edges)) i;
+        delays = first-at (f .header .edges) 0 (f .delays) e l (omega (arith, z .delays, w .edges)) i;
       }
 
-  latency-used : (v : ℕ) → v < f .nodes → latencyOf (used f) v ≡ latencyOf f v
+  latency-used : (v : ℕ) → v < f .header .nodes → latencyOf (used f) v ≡ latencyOf f v
   unfolding used
   latency-used v l =
-      let c : nodeOf f v .class < f .classes = subst (λ (k : Node). k .class < f .classes) (node-used v l) (w .node v l) in
+      let c : nodeOf f v .class < f .header .classes = subst (λ (k : Node). k .class < f .header .classes) (node-used v l) (w .node v l) in
       ap (λ (k : Node). classOf (used f) (k .class) .latency) (node-used v l) ∙ ap (λ (k : Class). k .latency) (class-used (nodeOf f v .class) c)
 
-  module _ (ne : f .length ≢ 0) (v : ℕ) (l : v < f .nodes) where
+  module _ (ne : f .header .length ≢ 0) (v : ℕ) (l : v < f .header .nodes) where
     start-used : startOf (used f) v ≡ startOf f v
     unfolding used
     start-used =
         ap (λ (k : BodyStep). k .0)
-        (first-at (scheduled f) noStep (f .start) v (omega (arith, scheduled-all (f .length) (f .nodes) ne)) (omega (arith, z .start, w .nodes)))
+        (first-at (scheduled f) noStep (f .start) v (omega (arith, scheduled-all (f .header .length) (f .header .nodes) ne)) (omega (arith, z .start, w .nodes)))
 
     retiming-used : retimingOf (used f) v ≡ retimingOf f v
     unfolding used
     retiming-used =
-        first-at (scheduled f) 0 (f .retiming) v (omega (arith, scheduled-all (f .length) (f .nodes) ne)) (omega (arith, z .retiming, w .nodes))
+        first-at (scheduled f) 0 (f .retiming) v (omega (arith, scheduled-all (f .header .length) (f .header .nodes) ne)) (omega (arith, z .retiming, w .nodes))
 
   -- a form of which the used places are well-formed is well-formed
   pub used-well-formed : WellFormed f
@@ -61,8 +61,8 @@ module _ (f : Form) (z : Sized f) (w : WellFormed (used f)) where
         edges = w .edges;
         length = w .length;
         class = λ i l. subst GoodClass (class-used i l) (w .class i l);
-        node = λ v l. subst (λ (k : Node). k .class < f .classes) (node-used v l) (w .node v l);
-        edge = λ e l. subst (GoodEdge (f .nodes)) (edge-used e l) (w .edge e l);
+        node = λ v l. subst (λ (k : Node). k .class < f .header .classes) (node-used v l) (w .node v l);
+        edge = λ e l. subst (GoodEdge (f .header .nodes)) (edge-used e l) (w .edge e l);
         schedule =
             λ ne.
             let s : GoodSchedule (used f) = w .schedule ne in

@@ -47,18 +47,18 @@ module _ (f : Form) (h : Held f) where
 
   -- what is read of a well-formed form has a retiming that is 0
   normal : WellFormed f → (x : Reading) → StartsSofar (layout f) (headStarts (layout f)) x
-      → normalized (x .form .length) (x .form .nodes) (x .form .retiming) ≡ true
+      → normalized (x .form .header .length) (x .form .header .nodes) (x .form .retiming) ≡ true
   normal w x p =
       let k : Counts f h = counts f h (p .head) in
-      let last : ℕ = x .form .length in
-      let nodes : ℕ = x .form .nodes in
+      let last : ℕ = x .form .header .length in
+      let nodes : ℕ = x .form .header .nodes in
       elim (ℕ-discrete last 0) [
         | yes z ↦ normal-none last nodes (x .form .retiming) z
         | no ne ↦
             let s : GoodSchedule f = w .schedule (λ z. ne (p .last ∙ k .last ∙ z)) in
             let v : ℕ = s .least .0 in
             let l : v < nodes = omega (arith, s .least .1, p .nodes, k .nodes) in
-            let t : v < headStarts (layout f) = omega (arith, starts-same f h k, scheduled-all (f .length) (f .nodes) (λ z. ne (p .last ∙ k .last ∙ z)), s .least .1) in
+            let t : v < headStarts (layout f) = omega (arith, starts-same f h k, scheduled-all (f .header .length) (f .header .nodes) (λ z. ne (p .last ∙ k .last ∙ z)), s .least .1) in
             normal-some last nodes (x .form .retiming) ne
             ∙ zero-some nodes (x .form .retiming) v l (ap (λ (q : Slot). q .retiming) (slot-agrees f h _ _ _ _ _ x p v t t) ∙ s .least .2)
       ]
@@ -73,7 +73,7 @@ module _ (f : Form) (h : Held f) where
           let x : Reading = startsRead (layout f) in
           let p : StartsSofar (layout f) (headStarts (layout f)) x = laid-run f h .on e in
           let none : endOf (layout f) x ≡ None =
-          pick-true (fine (x .next .refusal)) _ _ e ∙ pick-true (normalized (x .form .length) (x .form .nodes) (x .form .retiming)) _ _ (normal w x p) ∙ pick-false (ltb (x .next .at) (length (layout f))) _ _ (at-end x p) in
+          pick-true (fine (x .next .refusal)) _ _ e ∙ pick-true (normalized (x .form .header .length) (x .form .header .nodes) (x .form .retiming)) _ _ (normal w x p) ∙ pick-false (ltb (x .next .at) (length (layout f))) _ _ (at-end x p) in
           ap (λ (r : Refusal). answered r (x .form)) none ∙ ap (λ (g : Form). answered None g) (reads-used f h x p) ∙ answered-none (used f)
       go false e = absurd (laid-run f h .off e .never w)
 
@@ -91,7 +91,7 @@ module _ (f : Form) (h : Held f) where
       let x : Reading = startsRead (layout f) in
       let P : Refusal → Type 0 = λ r. (numberOf r ≡ 0) ⊎ Within 4 9 (numberOf r) in
       pick-ind P (fine (x .next .refusal)) _ _
-      (λ e. pick-ind P (normalized (x .form .length) (x .form .nodes) (x .form .retiming)) _ _
+      (λ e. pick-ind P (normalized (x .form .header .length) (x .form .header .nodes) (x .form .retiming)) _ _
       (λ n. pick-ind P (ltb (x .next .at) (length (layout f))) _ _ (λ l. both-ways l (at-end x (laid-run f h .on e))) (λ l. inl refl))
       (λ n. inr (omega arith)))
       (λ e. inr (laid-run f h .off e .low, laid-run f h .off e .high))

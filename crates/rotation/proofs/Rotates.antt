@@ -44,9 +44,9 @@ unfolding turns
 turns-some z l n = ap (λ (b : Bool). b && ltb z l) (sym (lt-ltb 0 z (omega (arith, n))))
 
 -- the length is the same, whether or not a retiming is fitted
-or-length : (f : Form) (z : ℕ) → rotatedOr f z .length ≡ rotatedLength f z
+or-length : (f : Form) (z : ℕ) → rotatedOr f z .header .length ≡ rotatedLength f z
 unfolding rotatedOr turnedForm rotated withPair
-or-length f z = pick-ind (λ (x : Form). x .length ≡ rotatedLength f z) (tooLong f z) (turnedForm f z) (rotated f z) (λ _. refl) (λ _. refl)
+or-length f z = pick-ind (λ (x : Form). x .header .length ≡ rotatedLength f z) (tooLong f z) (turnedForm f z) (rotated f z) (λ _. refl) (λ _. refl)
 
 -- what the judge accepts, and what it refuses
 module _ (f : Form) (j : verdict.Judged) (q : Judgement f j) where
@@ -73,43 +73,43 @@ module _ (f : Form) (w : WellFormed f) (z : ℕ) (accepted : judgeOf f ≡ None)
   judge-fine = ap fine accepted
 
   -- what the judge accepts is legal
-  pub rotate-legal : turns z (f .length) ≡ true → Legal (loopOf f) (pairOf f) × (1 ≤ z) × (z < f .length)
-  rotate-legal t = let b = turns-told z (f .length) t in (judge-accepts f w accepted .1, b .0, b .1)
+  pub rotate-legal : turns z (f .header .length) ≡ true → Legal (loopOf f) (pairOf f) × (1 ≤ z) × (z < f .header .length)
+  rotate-legal t = let b = turns-told z (f .header .length) t in (judge-accepts f w accepted .1, b .0, b .1)
 
-  pub rotate-size : turns z (f .length) ≡ false → (n : ℕ) → n ≡ z → (c : Cycle) → c ≡ noCycle
+  pub rotate-size : turns z (f .header .length) ≡ false → (n : ℕ) → n ≡ z → (c : Cycle) → c ≡ noCycle
       → Planned (rotateAsked z) (rotatedBy z) unturned f (record { refusal = Size n; rotations = 0; cycle = c; form = f })
   unfolding rotateAsked fine
   rotate-size b n is c none = record {
-    refusal = ap (λ (k : ℕ). Size k) is ∙ sym (pick-true (fine (judgeOf f)) _ _ judge-fine ∙ pick-false (turns z (f .length)) _ _ b);
+    refusal = ap (λ (k : ℕ). Size k) is ∙ sym (pick-true (fine (judgeOf f)) _ _ judge-fine ∙ pick-false (turns z (f .header .length)) _ _ b);
     form = λ t. both-ways t refl;
     rotations = λ t. refl;
     handed = handed-none _ _ (Size n) c (omega arith) (omega arith) none;
   }
 
-  module _ (t : turns z (f .length) ≡ true) (x : Form) (is : x ≡ rotatedOr f z) (c : Cycle) (none : c ≡ noCycle) where
-    long-is : x .length ≡ rotatedLength f z
-    long-is = ap (λ (g : Form). g .length) is ∙ or-length f z
+  module _ (t : turns z (f .header .length) ≡ true) (x : Form) (is : x ≡ rotatedOr f z) (c : Cycle) (none : c ≡ noCycle) where
+    long-is : x .header .length ≡ rotatedLength f z
+    long-is = ap (λ (g : Form). g .header .length) is ∙ or-length f z
 
-    pub rotate-too-long : 512 < x .length → Planned (rotateAsked z) (rotatedBy z) unturned f (record { refusal = Long; rotations = 0; cycle = c; form = f })
+    pub rotate-too-long : 512 < x .header .length → Planned (rotateAsked z) (rotatedBy z) unturned f (record { refusal = Long; rotations = 0; cycle = c; form = f })
     unfolding rotateAsked tooLong fine
     rotate-too-long l = record {
       refusal =
           sym (pick-true (fine (judgeOf f)) _ _ judge-fine
-          ∙ pick-true (turns z (f .length)) _ _ t
+          ∙ pick-true (turns z (f .header .length)) _ _ t
           ∙ pick-true (tooLong f z) _ _ (lt-ltb 512 (rotatedLength f z) (omega (arith, long-is))));
       form = λ q. both-ways q refl;
       rotations = λ q. refl;
       handed = handed-none _ _ Long c (omega arith) (omega arith) none;
     }
 
-    pub rotate-planned : x .length ≤ 512 → Planned (rotateAsked z) (rotatedBy z) unturned f (record { refusal = None; rotations = 0; cycle = c; form = x })
+    pub rotate-planned : x .header .length ≤ 512 → Planned (rotateAsked z) (rotatedBy z) unturned f (record { refusal = None; rotations = 0; cycle = c; form = x })
     unfolding rotateAsked rotatedOr tooLong
     rotate-planned l =
         let short : tooLong f z ≡ false = le-ltb 512 (rotatedLength f z) (omega (arith, long-is)) in
         record {
           refusal =
               sym (pick-true (fine (judgeOf f)) _ _ judge-fine
-              ∙ pick-true (turns z (f .length)) _ _ t
+              ∙ pick-true (turns z (f .header .length)) _ _ t
               ∙ pick-false (tooLong f z) _ _ short);
           form = λ _. is ∙ pick-false (tooLong f z) _ _ short;
           rotations = λ _. refl;
@@ -117,14 +117,14 @@ module _ (f : Form) (w : WellFormed f) (z : ℕ) (accepted : judgeOf f ≡ None)
         }
 
 -- where nothing is refused, the judge accepts, the steps can be rotated, and the rotation is not too long
-asked-told : (z : ℕ) (f : Form) → fine (rotateAsked z f) ≡ true → (fine (judgeOf f) ≡ true) × (turns z (f .length) ≡ true) × (tooLong f z ≡ false)
+asked-told : (z : ℕ) (f : Form) → fine (rotateAsked z f) ≡ true → (fine (judgeOf f) ≡ true) × (turns z (f .header .length) ≡ true) × (tooLong f z ≡ false)
 unfolding rotateAsked fine
-asked-told z f e = go (fine (judgeOf f)) (turns z (f .length)) (tooLong f z) refl refl refl
+asked-told z f e = go (fine (judgeOf f)) (turns z (f .header .length)) (tooLong f z) refl refl refl
   where
-    go : (a b c : Bool) → fine (judgeOf f) ≡ a → turns z (f .length) ≡ b → tooLong f z ≡ c → (fine (judgeOf f) ≡ true) × (turns z (f .length) ≡ true) × (tooLong f z ≡ false)
+    go : (a b c : Bool) → fine (judgeOf f) ≡ a → turns z (f .header .length) ≡ b → tooLong f z ≡ c → (fine (judgeOf f) ≡ true) × (turns z (f .header .length) ≡ true) × (tooLong f z ≡ false)
     go false b c p q r = both-ways e (ap fine (pick-false (fine (judgeOf f)) _ _ p) ∙ p)
-    go true false c p q r = both-ways e (ap fine (pick-true (fine (judgeOf f)) _ _ p ∙ pick-false (turns z (f .length)) _ _ q))
-    go true true true p q r = both-ways e (ap fine (pick-true (fine (judgeOf f)) _ _ p ∙ pick-true (turns z (f .length)) _ _ q ∙ pick-true (tooLong f z) _ _ r))
+    go true false c p q r = both-ways e (ap fine (pick-true (fine (judgeOf f)) _ _ p ∙ pick-false (turns z (f .header .length)) _ _ q))
+    go true true true p q r = both-ways e (ap fine (pick-true (fine (judgeOf f)) _ _ p ∙ pick-true (turns z (f .header .length)) _ _ q ∙ pick-true (tooLong f z) _ _ r))
     go true true false p q r = (p, q, r)
 
 pub rotate-writes : (z : ℕ) (f : Form) → WellFormed f → Held f → fine (rotateAsked z f) ≡ true → (room : ℕ) → (refusalOf (rotatedBy z f) room ≡ None) ⊎ (refusalOf (rotatedBy z f) room ≡ Room 0)

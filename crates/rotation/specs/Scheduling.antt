@@ -67,7 +67,7 @@ turns z l = ltb 0 z && ltb z l
 
 -- a rotation: what the judge refuses, then Size, then Long
 unfoldable pub rotateAsked : ℕ → Form → Refusal
-rotateAsked z f = pick (fine (judgeOf f)) (pick (turns z (f .length)) (pick (tooLong f z) Long None) (Size z)) (judgeOf f)
+rotateAsked z f = pick (fine (judgeOf f)) (pick (turns z (f .header .length)) (pick (tooLong f z) Long None) (Size z)) (judgeOf f)
 
 abbrev pub rotatedBy : ℕ → Form → Form
 rotatedBy z f = rotated f z

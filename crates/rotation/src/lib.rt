@@ -68,7 +68,13 @@ fn first_plan(form: Form) -> Plan
     requires { ⌜ WellFormed form ⌝ }
     ensures { λ r. ⌜ Planned firstAsked firstForm unturned form r ⌝ }
 {
-    let knot = knots::knot_of(form.nodes, form.edges, &form.from, &form.to, &form.delays);
+    let knot = knots::knot_of(
+        form.header.nodes,
+        form.header.edges,
+        &form.from,
+        &form.to,
+        &form.delays,
+    );
     if 0 < knot.count {
         return Plan {
             refusal: Refusal::Knot,
@@ -118,7 +124,7 @@ fn rotate_plan(form: Form, steps: u16) -> Plan
     ensures { λ r. ⌜ Planned (rotateAsked steps) (rotatedBy steps) unturned form r ⌝ }
 {
     let times = tables::times_of(form);
-    let judged = judge::judge_tables(form.edges, &form.from, &form.to, &form.delays, times);
+    let judged = judge::judge_tables(form.header.edges, &form.from, &form.to, &form.delays, times);
     let unjudged = judged.refusal;
     let cycle = judged.cycle;
     if !unjudged.is_fine() {
@@ -129,7 +135,7 @@ fn rotate_plan(form: Form, steps: u16) -> Plan
             form,
         };
     }
-    if !turns_by(steps, form.length) {
+    if !turns_by(steps, form.header.length) {
         return Plan {
             refusal: Refusal::Size(steps as u32),
             rotations: 0,
@@ -138,7 +144,7 @@ fn rotate_plan(form: Form, steps: u16) -> Plan
         };
     }
     let turned = turning::rotate_form(form, steps);
-    if 512 < turned.length {
+    if 512 < turned.header.length {
         return Plan {
             refusal: Refusal::Long,
             rotations: 0,

@@ -72,7 +72,7 @@ pub(crate) fn table() {
     let form = read.form;
     rsk_c::rsk_floor(&bytes[..length], &mut answer);
     tell::print_floor(&bytes[..length], &answer);
-    if form.length as u32 == answer[1] {
+    if form.header.length as u32 == answer[1] {
         io::write_all(STDOUT_FILENO, b"shortest\n");
         return;
     }
@@ -239,7 +239,7 @@ fn repeat_from(command: Command, k: u16, starts: &[u32]) {
     let read = reader::read(&bytes[..length]);
     let form = read.form;
     print_steps(command, answer[1]);
-    print_last(&values, k, form.nodes);
+    print_last(&values, k, form.header.nodes);
 }
 
 // From the start values of the file that is named after K.

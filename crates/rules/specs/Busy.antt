@@ -34,7 +34,7 @@ pub record Seated (g : Loop) (p : Pair) : Type 0 where
   pub class : (v : ℕ) → v < g .graph .nodes → runsOn g v < g .classes
 
 -- so does every node of a well-formed form with a schedule
-pub seated-form : (f : Form) → WellFormed f → f .length ≢ 0 → Seated (loopOf f) (pairOf f)
+pub seated-form : (f : Form) → WellFormed f → f .header .length ≢ 0 → Seated (loopOf f) (pairOf f)
 unfolding loopOf pairOf graphOf
 seated-form f w n = record {
   few = w .classes .1;

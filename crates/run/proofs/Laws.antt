@@ -46,12 +46,12 @@ pub places-small : (k n : ℕ) → k ≤ 65535 → n ≤ 255 → k * n ≤ 16711
 places-small k n a b = mul-le-mul a b
 
 -- every node starts in the body
-pub starts-in : (f : Form) → WellFormed f → f .length ≢ 0 → (v : ℕ) → v < f .nodes → (1 ≤ stepAt (f .start) v) × (stepAt (f .start) v < 1 + f .length)
+pub starts-in : (f : Form) → WellFormed f → f .header .length ≢ 0 → (v : ℕ) → v < f .header .nodes → (1 ≤ stepAt (f .start) v) × (stepAt (f .start) v < 1 + f .header .length)
 starts-in f w some v l =
     let s = w .schedule some .starts v l in
     (s .begins, omega (arith, s .ends, w .class _ (w .node v l) .latency .0))
 
-pub start-few : (f : Form) → WellFormed f → f .length ≢ 0 → (v : ℕ) → v < f .nodes → stepAt (f .start) v ≤ 512
+pub start-few : (f : Form) → WellFormed f → f .header .length ≢ 0 → (v : ℕ) → v < f .header .nodes → stepAt (f .start) v ≤ 512
 start-few f w some v l = omega (arith, starts-in f w some v l .1, w .length)
 
 -- ---- what an edge hands over
@@ -71,6 +71,6 @@ module _ (nodes : ℕ) (finish : List ℕ) (i t u d : ℕ) where
 
 -- ---- the depth
 
-pub depth-whole : (f : Form) (d : ℕ) → WellFormed f → f .length ≢ 0 → d ≡ mostOf (f .retiming) (f .nodes) → (d ≡ depth (loopOf f) (pairOf f)) × (d ≤ 63)
+pub depth-whole : (f : Form) (d : ℕ) → WellFormed f → f .header .length ≢ 0 → d ≡ mostOf (f .retiming) (f .header .nodes) → (d ≡ depth (loopOf f) (pairOf f)) × (d ≤ 63)
 unfolding mostOf depth loopOf graphOf pairOf
-depth-whole f d w some e = (e, omega (arith, e, top-under (retimingOf f) 63 (f .nodes) (λ u l. w .schedule some .starts u l .retiming)))
+depth-whole f d w some e = (e, omega (arith, e, top-under (retimingOf f) 63 (f .header .nodes) (λ u l. w .schedule some .starts u l .retiming)))

@@ -85,37 +85,37 @@ module _ (f : Form) (k : ℕ) (starts : List ℕ) (j : ℕ) where
     pub rest : fold (visitIn (loopOf f) (pairOf f) starts k j) (machineOf values finish None) (drop i (order (loopOf f) (pairOf f)))
         ≡ repeated (loopOf f) (pairOf f) starts k (machineOf values₀ finish₀ None) j
     pub low : ℕ
-    pub rising : Rising (startOf f) (f .nodes) ((1 + f .length) * f .nodes) low (drop i (order (loopOf f) (pairOf f)))
-    pub point : Point (loopOf f) (pairOf f) starts k (j * f .length * f .nodes + low) finish free
+    pub rising : Rising (startOf f) (f .header .nodes) ((1 + f .header .length) * f .header .nodes) low (drop i (order (loopOf f) (pairOf f)))
+    pub point : Point (loopOf f) (pairOf f) starts k (j * f .header .length * f .header .nodes + low) finish free
 
-  module _ (well : WellFormed f) (scheduled : f .length ≢ 0) where
-    many : length (order (loopOf f) (pairOf f)) ≡ f .nodes
+  module _ (well : WellFormed f) (scheduled : f .header .length ≢ 0) where
+    many : length (order (loopOf f) (pairOf f)) ≡ f .header .nodes
     unfolding loopOf pairOf graphOf
-    many = order-length (startOf f) (f .nodes) 1 (f .length) (starts-in f well scheduled)
+    many = order-length (startOf f) (f .header .nodes) 1 (f .header .length) (starts-in f well scheduled)
 
     pub midway-begins : (values finish free : List ℕ) → Before f k starts j values finish free → Midway values finish 0 values finish free
     unfolding repeated loopOf pairOf graphOf
     midway-begins values finish free b = record {
       sized = record { values-long = refl; finish-long = refl; free-long = b .all-units };
       rest = refl;
-      low = 1 * f .nodes;
-      rising = order-rising (startOf f) (f .nodes) 1 (f .length);
-      point = subst (λ (n : ℕ). Point (loopOf f) (pairOf f) starts k n finish free) (add-mul (j * f .length) 1 (f .nodes)) (b .point);
+      low = 1 * f .header .nodes;
+      rising = order-rising (startOf f) (f .header .nodes) 1 (f .header .length);
+      point = subst (λ (n : ℕ). Point (loopOf f) (pairOf f) starts k n finish free) (add-mul (j * f .header .length) 1 (f .header .nodes)) (b .point);
     }
 
     module _ (values₀ finish₀ : List ℕ) (i : ℕ) (values finish free : List ℕ) (m : Midway values₀ finish₀ i values finish free) where
-      module _ (table : List ℕ) (in-order : take (f .nodes) table ≡ order (loopOf f) (pairOf f)) (l : i < f .nodes) where
+      module _ (table : List ℕ) (in-order : take (f .header .nodes) table ≡ order (loopOf f) (pairOf f)) (l : i < f .header .nodes) where
         here : drop i (order (loopOf f) (pairOf f)) ≡ getD table i 0 ∷ drop (i + 1) (order (loopOf f) (pairOf f))
         here =
-            let at : getD (order (loopOf f) (pairOf f)) i 0 ≡ getD table i 0 = ap (λ (us : List ℕ). getD us i 0) (sym in-order) ∙ getD-take (f .nodes) table i 0 l in
+            let at : getD (order (loopOf f) (pairOf f)) i 0 ≡ getD table i 0 = ap (λ (us : List ℕ). getD us i 0) (sym in-order) ∙ getD-take (f .header .nodes) table i 0 l in
             drop-cons (order (loopOf f) (pairOf f)) i 0 (omega (arith, many)) ∙ ap₂ (λ (u : ℕ) (us : List ℕ). u ∷ us) at (ap (λ (x : ℕ). drop x (order (loopOf f) (pairOf f))) (sym (add-one i)))
 
-        risen : (m .low ≤ startOf f (getD table i 0) * f .nodes + getD table i 0) × (getD table i 0 < f .nodes)
-            × Rising (startOf f) (f .nodes) ((1 + f .length) * f .nodes) (suc (startOf f (getD table i 0) * f .nodes + getD table i 0)) (drop (i + 1) (order (loopOf f) (pairOf f)))
+        risen : (m .low ≤ startOf f (getD table i 0) * f .header .nodes + getD table i 0) × (getD table i 0 < f .header .nodes)
+            × Rising (startOf f) (f .header .nodes) ((1 + f .header .length) * f .header .nodes) (suc (startOf f (getD table i 0) * f .header .nodes + getD table i 0)) (drop (i + 1) (order (loopOf f) (pairOf f)))
         unfolding Rising
-        risen = subst (Rising (startOf f) (f .nodes) ((1 + f .length) * f .nodes) (m .low)) here (m .rising)
+        risen = subst (Rising (startOf f) (f .header .nodes) ((1 + f .header .length) * f .header .nodes) (m .low)) here (m .rising)
 
-        pub node-in : getD table i 0 < f .nodes
+        pub node-in : getD table i 0 < f .header .nodes
         node-in = risen .1
 
         -- what the rest makes of the machine after the node's visit
@@ -126,7 +126,7 @@ module _ (f : Form) (k : ℕ) (starts : List ℕ) (j : ℕ) where
 
         visited : visitIn (loopOf f) (pairOf f) starts k j (machineOf values finish None) (getD table i 0)
             ≡ pick (hasOne (depth (loopOf f) (pairOf f)) j (retimingOf f (getD table i 0)) k)
-            (issue (loopOf f) (pairOf f) starts k (machineOf values finish None) (j * f .length + startOf f (getD table i 0)) (getD table i 0)) (machineOf values finish None)
+            (issue (loopOf f) (pairOf f) starts k (machineOf values finish None) (j * f .header .length + startOf f (getD table i 0)) (getD table i 0)) (machineOf values finish None)
         unfolding pairOf
         visited = visit-here (loopOf f) (pairOf f) starts k j (getD table i 0) (starts-in f well scheduled (getD table i 0) node-in .0) (omega (arith, starts-in f well scheduled (getD table i 0) node-in .1)) values finish
 
@@ -137,7 +137,7 @@ module _ (f : Form) (k : ℕ) (starts : List ℕ) (j : ℕ) where
           midway-skips none = record {
             sized = m .sized;
             rest = ap (λ (r : Machine). fold (visitIn (loopOf f) (pairOf f) starts k j) r (drop (i + 1) (order (loopOf f) (pairOf f)))) (sym (visited ∙ pick-false _ _ _ (rw (← is-depth) none))) ∙ rest-here;
-            low = suc (startOf f (getD table i 0) * f .nodes + getD table i 0);
+            low = suc (startOf f (getD table i 0) * f .header .nodes + getD table i 0);
             rising = risen .2;
             point = point-later (loopOf f) (pairOf f) starts k _ _ finish free (omega (arith, risen .0)) (m .point);
           }
@@ -149,7 +149,7 @@ module _ (f : Form) (k : ℕ) (starts : List ℕ) (j : ℕ) where
               ltb-true (j + retimingOf f (getD table i 0)) (deep + k) (and-both (leb deep (j + retimingOf f (getD table i 0))) (ltb (j + retimingOf f (getD table i 0)) (deep + k)) some .1),
             )
 
-            pub midway-told : (x t : ℕ) → x ≡ j + retimingOf f (getD table i 0) - deep → t ≡ j * f .length + startOf f (getD table i 0)
+            pub midway-told : (x t : ℕ) → x ≡ j + retimingOf f (getD table i 0) - deep → t ≡ j * f .header .length + startOf f (getD table i 0)
                 → IssueTold (loopOf f) (pairOf f) starts k (getD table i 0) x t (nodeOf f (getD table i 0) .class) (classOf f (nodeOf f (getD table i 0) .class))
             unfolding loopOf graphOf pairOf
             midway-told x t is-x is-t =
@@ -169,15 +169,15 @@ module _ (f : Form) (k : ℕ) (starts : List ℕ) (j : ℕ) where
                 })
 
             -- the places of its iteration
-            pub midway-room : (x n : ℕ) → x ≡ j + retimingOf f (getD table i 0) - deep → k * f .nodes ≤ n → x * f .nodes + f .nodes ≤ n
-            midway-room x n is-x room = let e = low-enough in omega (arith, rows-below x k (f .nodes) (omega arith))
+            pub midway-room : (x n : ℕ) → x ≡ j + retimingOf f (getD table i 0) - deep → k * f .header .nodes ≤ n → x * f .header .nodes + f .header .nodes ≤ n
+            midway-room x n is-x room = let e = low-enough in omega (arith, rows-below x k (f .header .nodes) (omega arith))
 
-            pub midway-point : (t : ℕ) → t ≡ j * f .length + startOf f (getD table i 0) → Point (loopOf f) (pairOf f) starts k (t * f .nodes + getD table i 0) finish free
+            pub midway-point : (t : ℕ) → t ≡ j * f .header .length + startOf f (getD table i 0) → Point (loopOf f) (pairOf f) starts k (t * f .header .nodes + getD table i 0) finish free
             midway-point t is-t =
-                point-later (loopOf f) (pairOf f) starts k _ (t * f .nodes + getD table i 0) finish free
-                (rw is-t (omega (arith, risen .0, add-mul (j * f .length) (startOf f (getD table i 0)) (f .nodes)))) (m .point)
+                point-later (loopOf f) (pairOf f) starts k _ (t * f .header .nodes + getD table i 0) finish free
+                (rw is-t (omega (arith, risen .0, add-mul (j * f .header .length) (startOf f (getD table i 0)) (f .header .nodes)))) (m .point)
 
-            module _ (t : ℕ) (is-t : t ≡ j * f .length + startOf f (getD table i 0)) (values′ finish′ free′ : List ℕ) (why : Refusal)
+            module _ (t : ℕ) (is-t : t ≡ j * f .header .length + startOf f (getD table i 0)) (values′ finish′ free′ : List ℕ) (why : Refusal)
                 (size : SameSizes values finish values′ finish′ free′)
                 (o : Outcome (loopOf f) (pairOf f) starts k t (getD table i 0) (machineOf values finish None) (machineOf values′ finish′ why) free′) where
               both-sized : SameSizes values₀ finish₀ values′ finish′ free′
@@ -204,9 +204,9 @@ module _ (f : Form) (k : ℕ) (starts : List ℕ) (j : ℕ) where
                 sized = both-sized;
                 rest = subst (λ (x : Refusal). fold (visitIn (loopOf f) (pairOf f) starts k j) (machineOf values′ finish′ x) (drop (i + 1) (order (loopOf f) (pairOf f)))
                     ≡ repeated (loopOf f) (pairOf f) starts k (machineOf values₀ finish₀ None) j) (none-refused e) rest-issued;
-                low = suc (startOf f (getD table i 0) * f .nodes + getD table i 0);
+                low = suc (startOf f (getD table i 0) * f .header .nodes + getD table i 0);
                 rising = risen .2;
-                point = point-later (loopOf f) (pairOf f) starts k _ _ finish′ free′ (rw is-t (omega (arith, add-mul (j * f .length) (startOf f (getD table i 0)) (f .nodes)))) (o .point e);
+                point = point-later (loopOf f) (pairOf f) starts k _ _ finish′ free′ (rw is-t (omega (arith, add-mul (j * f .header .length) (startOf f (getD table i 0)) (f .header .nodes)))) (o .point e);
               }
 
               -- it is refused, and so is the repetition
@@ -218,12 +218,12 @@ module _ (f : Form) (k : ℕ) (starts : List ℕ) (j : ℕ) where
               }
 
       -- no node is left
-      pub midway-ends : i ≡ f .nodes → k * f .nodes ≤ length values₀ → k * f .nodes ≤ length finish₀ → Went f k starts j values₀ finish₀ values finish free None
+      pub midway-ends : i ≡ f .header .nodes → k * f .header .nodes ≤ length values₀ → k * f .header .nodes ≤ length finish₀ → Went f k starts j values₀ finish₀ values finish free None
       unfolding fold Rising
       midway-ends all room room′ =
           let none : drop i (order (loopOf f) (pairOf f)) ≡ [] = let past : length (order (loopOf f) (pairOf f)) ≤ i = omega (arith, many) in drop-of-length-le (order (loopOf f) (pairOf f)) past in
           let s = m .sized in
-          let last : m .low ≤ (1 + f .length) * f .nodes = subst (Rising (startOf f) (f .nodes) ((1 + f .length) * f .nodes) (m .low)) none (m .rising) in
+          let last : m .low ≤ (1 + f .header .length) * f .header .nodes = subst (Rising (startOf f) (f .header .nodes) ((1 + f .header .length) * f .header .nodes) (m .low)) none (m .rising) in
           record {
             sized = s;
             is-repeated = subst (λ (us : List ℕ). fold (visitIn (loopOf f) (pairOf f) starts k j) (machineOf values finish None) us ≡ repeated (loopOf f) (pairOf f) starts k (machineOf values₀ finish₀ None) j) none (m .rest);
@@ -234,7 +234,7 @@ module _ (f : Form) (k : ℕ) (starts : List ℕ) (j : ℕ) where
                 for-finish = omega (arith, s .finish-long);
                 all-units = s .free-long;
                 point = point-later (loopOf f) (pairOf f) starts k _ _ finish free
-                    (omega (arith, last, add-mul 1 (f .length) (f .nodes), add-mul j 1 (f .length), add-mul ((j + 1) * f .length) 1 (f .nodes), add-mul (j * f .length) (1 * f .length) (f .nodes), ap (λ (x : ℕ). x * f .nodes) (add-mul j 1 (f .length)), ap (λ (x : ℕ). x * f .nodes) (one-mul (f .length)))) (m .point);
+                    (omega (arith, last, add-mul 1 (f .header .length) (f .header .nodes), add-mul j 1 (f .header .length), add-mul ((j + 1) * f .header .length) 1 (f .header .nodes), add-mul (j * f .header .length) (1 * f .header .length) (f .header .nodes), ap (λ (x : ℕ). x * f .header .nodes) (add-mul j 1 (f .header .length)), ap (λ (x : ℕ). x * f .header .nodes) (one-mul (f .header .length)))) (m .point);
               },
             );
           }

@@ -23,18 +23,18 @@ use Rattle.run.specs.Issue.{machineOf, SameSizes}
 -- a form with a schedule, its depth, its order and its links, and a start table that is long enough
 pub record Equipped (f : Form) (deep : ℕ) (table first next starts : List ℕ) : Type 0 where
   pub well : WellFormed f
-  pub scheduled : f .length ≢ 0
+  pub scheduled : f .header .length ≢ 0
   pub is-depth : deep ≡ depth (loopOf f) (pairOf f)
-  pub in-order : take (f .nodes) table ≡ order (loopOf f) (pairOf f)
-  pub linked : Chains (λ e. getD (f .to) e 0) (f .edges) first next
-  pub for-starts : 15 * f .nodes ≤ length starts
+  pub in-order : take (f .header .nodes) table ≡ order (loopOf f) (pairOf f)
+  pub linked : Chains (λ e. getD (f .to) e 0) (f .header .edges) first next
+  pub for-starts : 15 * f .header .nodes ≤ length starts
 
 -- before repetition j: room for all places, and the units told
 pub record Before (f : Form) (k : ℕ) (starts : List ℕ) (j : ℕ) (values finish free : List ℕ) : Type 0 where
-  pub for-values : k * f .nodes ≤ length values
-  pub for-finish : k * f .nodes ≤ length finish
+  pub for-values : k * f .header .nodes ≤ length values
+  pub for-finish : k * f .header .nodes ≤ length finish
   pub all-units : length free ≡ 32
-  pub point : Point (loopOf f) (pairOf f) starts k ((j * f .length + 1) * f .nodes) finish free
+  pub point : Point (loopOf f) (pairOf f) starts k ((j * f .header .length + 1) * f .header .nodes) finish free
 
 -- what repetition j makes of the buffers, and what holds before the next if nothing is refused
 pub record Went (f : Form) (k : ℕ) (starts : List ℕ) (j : ℕ) (values₀ finish₀ values finish free : List ℕ) (why : Refusal) : Type 0 where

@@ -27,7 +27,7 @@ roomAsked steps nodes k starts values finish =
     (pick (ltb (length finish) (k * nodes)) (Room 2) None)))
 
 abbrev pub runAsked : Form → ℕ → List ℕ → List ℕ → List ℕ → Refusal
-runAsked f k starts values finish = roomAsked (f .length) (f .nodes) k starts values finish
+runAsked f k starts values finish = roomAsked (f .header .length) (f .header .nodes) k starts values finish
 
 -- what is refused before a run begins
 unfoldable pub asked : List ℕ → ℕ → List ℕ → List ℕ → List ℕ → Refusal
@@ -43,10 +43,10 @@ stepsOf f k starts = runSteps (loopOf f) (pairOf f) starts k
 -- a form that can be run
 pub record Runnable (f : Form) (k : ℕ) (starts values finish : List ℕ) : Type 0 where
   pub well : WellFormed f
-  pub scheduled : f .length ≢ 0
-  pub for-starts : 15 * f .nodes ≤ length starts
-  pub for-values : k * f .nodes ≤ length values
-  pub for-finish : k * f .nodes ≤ length finish
+  pub scheduled : f .header .length ≢ 0
+  pub for-starts : 15 * f .header .nodes ≤ length starts
+  pub for-values : k * f .header .nodes ≤ length values
+  pub for-finish : k * f .header .nodes ≤ length finish
 
 -- what its run answers
 pub record FormRun (f : Form) (k : ℕ) (starts values₀ finish₀ values finish : List ℕ) (r : Ran) : Type 0 where

@@ -39,17 +39,17 @@ going-none f w free first is count size small = record {
 }
 
 -- a form rotated has its length, too long or not
-or-length : (f : Form) (s : ℕ) → rotatedOr f s .length ≡ rotatedLength f s
+or-length : (f : Form) (s : ℕ) → rotatedOr f s .header .length ≡ rotatedLength f s
 unfolding rotatedOr turnedForm rotated withPair
-or-length f s = pick-ind (λ (g : Form). g .length ≡ rotatedLength f s) (tooLong f s) (turnedForm f s) (rotated f s) (λ _. refl) (λ _. refl)
+or-length f s = pick-ind (λ (g : Form). g .header .length ≡ rotatedLength f s) (tooLong f s) (turnedForm f s) (rotated f s) (λ _. refl) (λ _. refl)
 
 either : (a b : Bool) → b ≡ true → a || b ≡ true
 either true b e = refl
 either false b e = e
 
 -- a size halved and not 0 is one of a rotation
-pub turn-good : (now : Form) → GoodPair now → (z s : ℕ) → z < 65536 → s ≡ halved 17 (now .length) z → s ≢ 0 → (WellFormed now × Legal (loopOf now) (pairOf now)) × ((1 ≤ s) × (s < now .length))
-turn-good now good z s small halves n = ((good .well-formed, good .legal), (pos-of-ne-zero n, rw halves (halved-below (now .length) (good .some) z small)))
+pub turn-good : (now : Form) → GoodPair now → (z s : ℕ) → z < 65536 → s ≡ halved 17 (now .header .length) z → s ≢ 0 → (WellFormed now × Legal (loopOf now) (pairOf now)) × ((1 ≤ s) × (s < now .header .length))
+turn-good now good z s small halves n = ((good .well-formed, good .legal), (pos-of-ne-zero n, rw halves (halved-below (now .header .length) (good .some) z small)))
 
 -- what the answer is
 abbrev pub Answered : Form → ℕ → ℕ → Form → ℕ → Type 0
@@ -81,7 +81,7 @@ module _ (first : Form) (count size : ℕ) (now best : Form) (steps rotations : 
   stopped : (f : Form) → first ≡ firstForm f → rotations < count → stops here ≡ true → Answered f count size best rotations
   stopped f is l e = answered f is (sym (one-more l ∙ pick-true (stops here) here _ e))
 
-  module _ (s : ℕ) (halves : s ≡ halved 17 (now .length) steps) where
+  module _ (s : ℕ) (halves : s ≡ halved 17 (now .header .length) steps) where
     stops-is : stops here ≡ eqb s 0 || tooLong now s
     unfolding stops here
     stops-is = ap (λ (n : ℕ). eqb n 0 || tooLong now n) (sym halves)
@@ -90,19 +90,19 @@ module _ (first : Form) (count size : ℕ) (now best : Form) (steps rotations : 
     pub going-zero : (f : Form) → first ≡ firstForm f → rotations < count → s ≡ 0 → Answered f count size best rotations
     going-zero f is l e = stopped f is l (stops-is ∙ ap (λ (b : Bool). b || tooLong now s) (eq-eqb s 0 e))
 
-    below : s < now .length
-    below = rw halves (halved-below (now .length) (k .good .some) steps (k .small))
+    below : s < now .header .length
+    below = rw halves (halved-below (now .header .length) (k .good .some) steps (k .small))
 
     module _ (t : Form) (is : t ≡ rotatedOr now s) where
-      length-is : t .length ≡ rotatedLength now s
-      length-is = ap (λ (g : Form). g .length) is ∙ or-length now s
+      length-is : t .header .length ≡ rotatedLength now s
+      length-is = ap (λ (g : Form). g .header .length) is ∙ or-length now s
 
       -- the rotation is Long
-      pub going-long : (f : Form) → first ≡ firstForm f → rotations < count → 512 < t .length → Answered f count size best rotations
+      pub going-long : (f : Form) → first ≡ firstForm f → rotations < count → 512 < t .header .length → Answered f count size best rotations
       unfolding tooLong
       going-long f same l long = stopped f same l (stops-is ∙ either (eqb s 0) (tooLong now s) (lt-ltb 512 (rotatedLength now s) (omega (arith, length-is))))
 
-      module _ (some : s ≢ 0) (short : t .length ≤ 512) where
+      module _ (some : s ≢ 0) (short : t .header .length ≤ 512) where
         fits : tooLong now s ≡ false
         unfolding tooLong
         fits = le-ltb 512 (rotatedLength now s) (omega (arith, length-is))
@@ -123,7 +123,7 @@ module _ (first : Form) (count size : ℕ) (now best : Form) (steps rotations : 
         unfolding here
         going-turn l b choice n more = subst (Going first count size t b s) (sym more) (record {
           within = omega arith;
-          small = rw halves (halved-small (now .length) (k .good .some) steps (k .small));
+          small = rw halves (halved-small (now .header .length) (k .good .some) steps (k .small));
           good = subst GoodPair (sym rotated-is) (rotated-good now (k .good) s (record { some = pos-of-ne-zero some; below = below; fits = fits }));
           rest =
               ap (searchFrom (count - (rotations + 1))) (turned b choice)

@@ -36,7 +36,7 @@ fn halve(size: u16, length: u16) -> u16
 fn shorter_of(old: Form, new: Form) -> Form
     ensures { λ r. ⌜ r ≡ shorter old new ⌝ }
 {
-    if new.length < old.length {
+    if new.header.length < old.header.length {
         return new;
     }
     old
@@ -54,12 +54,12 @@ pub fn search_form(form: Form, count: u16, size: u16) -> Found
     let mut steps = size;
     let mut rotations: u32 = 0;
     while rotations < count as u32 {
-        steps = halve(steps, now.length);
+        steps = halve(steps, now.header.length);
         if steps == 0 {
             break;
         }
         let turned = turning::rotate_form(now, steps);
-        if 512 < turned.length {
+        if 512 < turned.header.length {
             break;
         }
         best = shorter_of(best, turned);
@@ -77,7 +77,13 @@ fn search_plan(form: Form, count: u16, size: u16) -> Plan
     requires { ⌜ WellFormed form ⌝ }
     ensures { λ r. ⌜ Planned (searchAsked size) (searchForm count size) (searchTurns count size) form r ⌝ }
 {
-    let knot = knots::knot_of(form.nodes, form.edges, &form.from, &form.to, &form.delays);
+    let knot = knots::knot_of(
+        form.header.nodes,
+        form.header.edges,
+        &form.from,
+        &form.to,
+        &form.delays,
+    );
     if 0 < knot.count {
         return Plan {
             refusal: Refusal::Knot,

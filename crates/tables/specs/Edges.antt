@@ -26,7 +26,7 @@ pub record Told (g : Loop) (nodes edges : ℕ) (from to delays : List ℕ) : Typ
   pub is-delay : (e : ℕ) → e < edges → g .delay e ≡ getD delays e 0
 
 -- a well-formed form's tables are such tables
-pub ends-form : (f : Form) → WellFormed f → Ends (f .nodes) (f .edges) (f .from) (f .to)
+pub ends-form : (f : Form) → WellFormed f → Ends (f .header .nodes) (f .header .edges) (f .from) (f .to)
 ends-form f w = record {
   some = w .nodes .0;
   most = w .nodes .1;
@@ -36,7 +36,7 @@ ends-form f w = record {
 }
 
 -- and any form's tables hold its loop's edges
-pub told-form : (f : Form) → Told (loopOf f) (f .nodes) (f .edges) (f .from) (f .to) (f .delays)
+pub told-form : (f : Form) → Told (loopOf f) (f .header .nodes) (f .header .edges) (f .from) (f .to) (f .delays)
 unfolding loopOf graphOf
 told-form f = record {
   all-nodes = refl;

@@ -18,7 +18,7 @@ pub record Lent (f : Form) (edges : ℕ) (from to delays : List ℕ) (t : Timeta
   pub timed : Timed (loopOf f) (pairOf f) t
 
 -- a form's own tables are
-pub lent-form : (f : Form) (t : Timetable) → WellFormed f → t ≡ timesOf f → Lent f (f .edges) (f .from) (f .to) (f .delays) t
+pub lent-form : (f : Form) (t : Timetable) → WellFormed f → t ≡ timesOf f → Lent f (f .header .edges) (f .from) (f .to) (f .delays) t
 unfolding timesOf
 lent-form f t w is = rw is (record { good = w; told = told-form f; timed = timed-form f })
 

@@ -16,19 +16,19 @@ use Rattle.tables.specs.declared.Timetable.{Timetable}
 -- 0 past the nodes
 unfoldable pub timesOf : Form → Timetable
 timesOf f = record {
-  classes = f .classes;
-  nodes = f .nodes;
-  length = f .length;
+  classes = f .header .classes;
+  nodes = f .header .nodes;
+  length = f .header .length;
   class = f .class;
-  runs = filled 64 (λ v. nodeOf f v .class) (f .nodes);
-  latency = filled 64 (latencyOf f) (f .nodes);
-  start = filled 64 (startOf f) (f .nodes);
+  runs = filled 64 (λ v. nodeOf f v .class) (f .header .nodes);
+  latency = filled 64 (latencyOf f) (f .header .nodes);
+  start = filled 64 (startOf f) (f .header .nodes);
   retiming = f .retiming;
 }
 
 -- tables that are filled for all nodes are those of the timetable
-pub times-are : (f : Form) (v : ℕ) (ks ts ss : List ℕ) → v ≡ f .nodes → ks ≡ filled 64 (λ u. nodeOf f u .class) v → ts ≡ filled 64 (latencyOf f) v → ss ≡ filled 64 (startOf f) v
-    → record { classes = f .classes; nodes = f .nodes; length = f .length; class = f .class; runs = ks; latency = ts; start = ss; retiming = f .retiming } ≡ timesOf f
+pub times-are : (f : Form) (v : ℕ) (ks ts ss : List ℕ) → v ≡ f .header .nodes → ks ≡ filled 64 (λ u. nodeOf f u .class) v → ts ≡ filled 64 (latencyOf f) v → ss ≡ filled 64 (startOf f) v
+    → record { classes = f .header .classes; nodes = f .header .nodes; length = f .header .length; class = f .class; runs = ks; latency = ts; start = ss; retiming = f .retiming } ≡ timesOf f
 unfolding timesOf
 times-are f v ks ts ss e k t s = rw (k, t, s, e)
 
@@ -56,7 +56,7 @@ sound-form f w = record {
   few = w .classes .1;
   class = w .class;
   most = w .nodes .1;
-  class-in = λ v l. omega (arith, filled-at 64 (λ u. nodeOf f u .class) (f .nodes) v l, w .node v l, w .classes);
+  class-in = λ v l. omega (arith, filled-at 64 (λ u. nodeOf f u .class) (f .header .nodes) v l, w .node v l, w .classes);
 }
 
 pub timed-form : (f : Form) → Timed (loopOf f) (pairOf f) (timesOf f)
@@ -66,18 +66,18 @@ timed-form f = record {
   all-nodes = refl;
   is-length = refl;
   is-class = λ c. refl;
-  runs-on = λ v l. sym (filled-at 64 (λ u. nodeOf f u .class) (f .nodes) v l);
-  takes = λ v l. sym (filled-at 64 (latencyOf f) (f .nodes) v l);
-  starts = λ v l. sym (filled-at 64 (startOf f) (f .nodes) v l);
+  runs-on = λ v l. sym (filled-at 64 (λ u. nodeOf f u .class) (f .header .nodes) v l);
+  takes = λ v l. sym (filled-at 64 (latencyOf f) (f .header .nodes) v l);
+  starts = λ v l. sym (filled-at 64 (startOf f) (f .header .nodes) v l);
   retimed = λ v. refl;
 }
 
 -- the length of a form with a timetable
 module _ (f : Form) (t : Timetable) (timed : Timed (loopOf f) (pairOf f) t) where
-  pub no-length : t .length ≡ 0 → f .length ≡ 0
+  pub no-length : t .length ≡ 0 → f .header .length ≡ 0
   unfolding pairOf
   no-length e = timed .is-length ∙ e
 
-  pub some-length : t .length ≢ 0 → f .length ≢ 0
+  pub some-length : t .length ≢ 0 → f .header .length ≢ 0
   unfolding pairOf
   some-length n e = n (sym (timed .is-length) ∙ e)

@@ -32,7 +32,7 @@ pub fn times_of(form: Form) -> Timetable
     let mut runs = [0u8; 64];
     let mut latency = [0u8; 64];
     let mut start = [0u16; 64];
-    let nodes = form.nodes as usize;
+    let nodes = form.header.nodes as usize;
     let mut v: usize = 0;
     while v < nodes {
         let number = node[v].class;
@@ -43,9 +43,9 @@ pub fn times_of(form: Form) -> Timetable
         v += 1;
     }
     Timetable {
-        classes: form.classes,
-        nodes: form.nodes,
-        length: form.length,
+        classes: form.header.classes,
+        nodes: form.header.nodes,
+        length: form.header.length,
         class,
         runs,
         latency,

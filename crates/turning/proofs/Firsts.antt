@@ -28,7 +28,7 @@ unfoldable pub bareForm : Form → Form
 bareForm f = withPair f (replicate 64 0) 0 (replicate 64 0)
 
 -- weights by node
-pub weighs : (b : Form) (ws : List ℕ) → ws ≡ weightsOf (loopOf b) (retimingOf b) → (v : ℕ) → v < b .nodes → getD ws v 0 ≡ weight (loopOf b) (retimingOf b) v
+pub weighs : (b : Form) (ws : List ℕ) → ws ≡ weightsOf (loopOf b) (retimingOf b) → (v : ℕ) → v < b .header .nodes → getD ws v 0 ≡ weight (loopOf b) (retimingOf b) v
 unfolding loopOf graphOf
 weighs b ws e v l = ap (λ (xs : List ℕ). getD xs v 0) e ∙ weights-at (loopOf b) (retimingOf b) v l
 
@@ -80,10 +80,10 @@ module _ (f : Form) (b : Form) (e : b ≡ bareForm f) where
     starts-are : numbersOf s ≡ firstStarts (loopOf f)
     starts-are = is ∙ ap (λ (c : Form). listRule (loopOf c) (retimingOf c) (startsOf c)) e ∙ rule-is f
 
-    pub first-starts-soon : WellFormed f → knotted (loopOf f) ≡ false → (v : ℕ) → v < b .nodes → startNumber (numbersOf s) v ≤ 1023
+    pub first-starts-soon : WellFormed f → knotted (loopOf f) ≡ false → (v : ℕ) → v < b .header .nodes → startNumber (numbersOf s) v ≤ 1023
     unfolding bareForm withPair
     first-starts-soon w free v l =
-        let m : v < f .nodes = omega (arith, ap (λ (c : Form). c .nodes) e) in
+        let m : v < f .header .nodes = omega (arith, ap (λ (c : Form). c .header .nodes) e) in
         omega (arith, first-soon f w free v m, ap (λ (xs : List ℕ). startNumber xs v) starts-are)
 
     -- the form with the starts, and the length, is the one with its first schedule

@@ -29,7 +29,7 @@ pub record Working (f : Form) (s : List BodyStep) (v : ℕ) : Type 0 where
   pub short : latencyOf f v ≤ 8
   pub soon : getD s v noStep .0 ≤ 1023
 
-pub working-of : (f : Form) (s : List BodyStep) → WellFormed f → ((v : ℕ) → v < f .nodes → startNumber (numbersOf s) v ≤ 1023) → (v : ℕ) → v < f .nodes → Working f s v
+pub working-of : (f : Form) (s : List BodyStep) → WellFormed f → ((v : ℕ) → v < f .header .nodes → startNumber (numbersOf s) v ≤ 1023) → (v : ℕ) → v < f .header .nodes → Working f s v
 working-of f s w soon v h =
     let l = w .node v h in
     let k = w .class (nodeOf f v .class) l in
@@ -53,7 +53,7 @@ unfolding lastOf
 last-more f s v =
     rw (add-one, top-snoc (λ u. startNumber (numbersOf s) u + latencyOf f u - 1) 0 v, zero-add, number-at s v)
 
-pub last-all : (f : Form) (s : List BodyStep) (v : ℕ) → v ≡ f .nodes → lastOf f s v ≡ lengthOf (loopOf f) (numbersOf s)
+pub last-all : (f : Form) (s : List BodyStep) (v : ℕ) → v ≡ f .header .nodes → lastOf f s v ≡ lengthOf (loopOf f) (numbersOf s)
 unfolding lastOf lengthOf loopOf graphOf
 last-all f s v e = ap (λ (n : ℕ). top (map (λ u. startNumber (numbersOf s) u + latencyOf f u - 1) (span 0 n))) e
 
@@ -67,10 +67,7 @@ steps-back (x ∷ xs) = ap (λ (l : List BodyStep). x ∷ l) (steps-back xs)
 -- what the fields are set to
 abbrev withSteps : Form → List BodyStep → ℕ → List ℕ → Form
 withSteps f s l r = record {
-  classes = f .classes;
-  nodes = f .nodes;
-  edges = f .edges;
-  length = l;
+  header = record { classes = f .header .classes; nodes = f .header .nodes; edges = f .header .edges; length = l };
   class = f .class;
   node = f .node;
   from = f .from;

@@ -69,13 +69,13 @@ start-alone : (g : Loop) (p q : Pair) → p .start ≡ q .start → p .length �
 unfolding retimings limits lateness
 start-alone g p q e l = λ i. retimings g (record { kind = q .kind; start = e i; length = l i; retiming = q .retiming })
 
-module _ (f : Form) (w : WellFormed f) (legal : Legal (loopOf f) (pairOf f)) (z : ℕ) (one : 1 ≤ z) (below : z < f .length) (n : length (f .start) ≡ 64) where
+module _ (f : Form) (w : WellFormed f) (legal : Legal (loopOf f) (pairOf f)) (z : ℕ) (one : 1 ≤ z) (below : z < f .header .length) (n : length (f .start) ≡ 64) where
   -- the length is 1 to 1023
   pub rotated-length : (1 ≤ rotatedLength f z) × (rotatedLength f z ≤ 1023)
   unfolding rotatedLength rotatedStarts pairOf
   rotated-length = turned-length (loopOf f) (pairOf f) z (startsOf f) (sound-form f w) (plain-form f) legal (tabled-form f n) (staffed-form f w) one below (w .length)
 
-  rotated-soon : (v : ℕ) → v < f .nodes → startNumber (rotatedStarts f z) v ≤ 1023
+  rotated-soon : (v : ℕ) → v < f .header .nodes → startNumber (rotatedStarts f z) v ≤ 1023
   unfolding rotatedLength loopOf graphOf
   rotated-soon v l = omega (arith, rotated-length .1, length-ends (loopOf f) (rotatedStarts f z) v l, sound-form f w .works v l)
 
@@ -116,18 +116,18 @@ module _ (f : Form) (w : WellFormed f) (legal : Legal (loopOf f) (pairOf f)) (z 
   turnedBy = record { kind = plain; start = startNumber (rotatedStarts f z); length = rotatedLength f z; retiming = gainedBy (pairOf f) z }
 
   module _ (t : Form) (is : t ≡ turnedForm f z) where
-    length-is : t .length ≡ rotatedLength f z
+    length-is : t .header .length ≡ rotatedLength f z
     unfolding turnedForm withPair
-    length-is = ap (λ (h : Form). h .length) is
+    length-is = ap (λ (h : Form). h .header .length) is
 
     -- too long
-    pub rotate-long : 512 < t .length → t ≡ rotatedOr f z
+    pub rotate-long : 512 < t .header .length → t ≡ rotatedOr f z
     unfolding rotatedOr tooLong
     rotate-long l = is ∙ sym (pick-true (ltb 512 (rotatedLength f z)) _ _ (lt-ltb 512 (rotatedLength f z) (omega (arith, length-is))))
 
-    module _ (short : t .length ≤ 512) where
+    module _ (short : t .header .length ≤ 512) where
       -- a retiming can be fitted
-      pub rotate-good : WellFormed t × (t .length ≢ 0)
+      pub rotate-good : WellFormed t × (t .header .length ≢ 0)
       rotate-good = (subst WellFormed (sym is) (turned-good (omega (arith, length-is))), λ e. omega (arith, e, length-is, rotated-length .0))
 
       module _ (x : Fitting) (fit : StartsFitted (loopOf t) (pairOf t) x) where
@@ -147,7 +147,7 @@ module _ (f : Form) (w : WellFormed f) (legal : Legal (loopOf f) (pairOf f)) (z 
         starts-back = ap (λ (h : Form). numbersOf (h .start)) is ∙ steps-there (rotatedStarts f z)
 
         -- the form with it is the form rotated
-        pub rotate-is : (r : Form) → r ≡ withPair f (numbersOf (t .start)) (t .length) (x .retiming) → r ≡ rotatedOr f z
+        pub rotate-is : (r : Form) → r ≡ withPair f (numbersOf (t .start)) (t .header .length) (x .retiming) → r ≡ rotatedOr f z
         unfolding rotatedOr tooLong rotated turnedBy
         rotate-is r whole =
             whole
@@ -156,7 +156,7 @@ module _ (f : Form) (w : WellFormed f) (legal : Legal (loopOf f) (pairOf f)) (z 
 
   -- ---- the list rule
 
-  module _ (ls rs : List ℕ) (low : ls ≡ droppedBy z (startsOf f)) (high : (v : ℕ) → v < f .nodes → getD rs v 0 ≡ gainedBy (pairOf f) z v) (b : Form) (e : b ≡ withPair f ls 0 rs) where
+  module _ (ls rs : List ℕ) (low : ls ≡ droppedBy z (startsOf f)) (high : (v : ℕ) → v < f .header .nodes → getD rs v 0 ≡ gainedBy (pairOf f) z v) (b : Form) (e : b ≡ withPair f ls 0 rs) where
     pub turn-good : WellFormed b
     turn-good = subst WellFormed (sym e) (bare-good f w ls rs)
 
@@ -189,10 +189,10 @@ module _ (f : Form) (w : WellFormed f) (legal : Legal (loopOf f) (pairOf f)) (z 
       starts-are : numbersOf s ≡ rotatedStarts f z
       starts-are = is ∙ ap (λ (c : Form). listRule (loopOf c) (retimingOf c) (startsOf c)) e ∙ rule-here
 
-      pub turn-soon : (v : ℕ) → v < b .nodes → startNumber (numbersOf s) v ≤ 1023
+      pub turn-soon : (v : ℕ) → v < b .header .nodes → startNumber (numbersOf s) v ≤ 1023
       unfolding withPair
       turn-soon v l =
-          let m : v < f .nodes = omega (arith, ap (λ (c : Form). c .nodes) e) in
+          let m : v < f .header .nodes = omega (arith, ap (λ (c : Form). c .header .nodes) e) in
           omega (arith, rotated-soon v m, ap (λ (xs : List ℕ). startNumber xs v) starts-are)
 
       -- the form with the starts, and the length, is the form turned

@@ -70,5 +70,5 @@ module _ (f : Form) (z : ℕ) (rs : List ℕ) where
   }
 
 -- a retiming of a form with a schedule is small
-pub small-retiming : (f : Form) → WellFormed f → f .length ≢ 0 → (v : ℕ) → v < f .nodes → retimingOf f v ≤ 63
+pub small-retiming : (f : Form) → WellFormed f → f .header .length ≢ 0 → (v : ℕ) → v < f .header .nodes → retimingOf f v ≤ 63
 small-retiming f w n v l = w .schedule n .starts v l .retiming

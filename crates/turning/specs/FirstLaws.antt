@@ -60,12 +60,12 @@ module _ (f : Form) (w : WellFormed f) (free : knotted (loopOf f) ≡ false) whe
   filled = first-filled (loopOf f) (sound-form f w) (staffed-form f w) free
 
   -- its length is 1 to 512
-  pub first-form-length : (1 ≤ firstForm f .length) × (firstForm f .length ≤ 512)
+  pub first-form-length : (1 ≤ firstForm f .header .length) × (firstForm f .header .length ≤ 512)
   unfolding firstForm withPair
   first-form-length = first-length (loopOf f) (sound-form f w) (staffed-form f w) free
 
   -- no start is late
-  pub first-soon : (v : ℕ) → v < f .nodes → startNumber (firstStarts (loopOf f)) v ≤ 513
+  pub first-soon : (v : ℕ) → v < f .header .nodes → startNumber (firstStarts (loopOf f)) v ≤ 513
   unfolding loopOf graphOf
   first-soon v l = omega (arith, filled .ends v l)
 
@@ -93,7 +93,7 @@ module _ (f : Form) (w : WellFormed f) (free : knotted (loopOf f) ≡ false) whe
   small-start : (v : ℕ) → startNumber (firstStarts (loopOf f)) v < 65536
   unfolding loopOf graphOf
   small-start v =
-      elim (decLt v (f .nodes)) [
+      elim (decLt v (f .header .nodes)) [
         | yes l ↦ omega (arith, first-soon v l)
         | no l ↦ omega (arith, first-past (loopOf f) v (omega arith))
       ]
@@ -150,5 +150,5 @@ module _ (f : Form) (w : WellFormed f) (free : knotted (loopOf f) ≡ false) whe
   -- and the judge accepts it
   pub first-judged : judgeOf (firstForm f) ≡ None
   first-judged =
-      let n : firstForm f .length ≢ 0 = λ z. omega (arith, first-form-length .0) in
+      let n : firstForm f .header .length ≢ 0 = λ z. omega (arith, first-form-length .0) in
       accepts-judge (firstForm f) first-well-formed n first-form-legal

@@ -11,10 +11,7 @@ asBodyStep n = record { 0 = n }
 -- the form with the starts, length and retimings given
 unfoldable pub withPair : Form → List ℕ → ℕ → List ℕ → Form
 withPair f s l r = record {
-  classes = f .classes;
-  nodes = f .nodes;
-  edges = f .edges;
-  length = l;
+  header = record { classes = f .header .classes; nodes = f .header .nodes; edges = f .header .edges; length = l };
   class = f .class;
   node = f .node;
   from = f .from;

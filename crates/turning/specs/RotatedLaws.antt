@@ -53,7 +53,7 @@ tabled f n = record { long = length-map (f .start) (λ (b : BodyStep). b .0) ∙
 unfoldable turnedBy : Form → ℕ → Pair
 turnedBy f z = record { kind = plain; start = startNumber (rotatedStarts f z); length = rotatedLength f z; retiming = gainedBy (pairOf f) z }
 
-module _ (f : Form) (w : WellFormed f) (legal : Legal (loopOf f) (pairOf f)) (z : ℕ) (one : 1 ≤ z) (below : z < f .length) (n : length (f .start) ≡ 64) where
+module _ (f : Form) (w : WellFormed f) (legal : Legal (loopOf f) (pairOf f)) (z : ℕ) (one : 1 ≤ z) (below : z < f .header .length) (n : length (f .start) ≡ 64) where
   placed : (v : ℕ) → v < loopOf f .graph .nodes → 0 < startNumber (rotatedStarts f z) v
   unfolding rotatedStarts pairOf
   placed v l = turned-filled (loopOf f) (pairOf f) z (startsOf f) (sound-form f w) (plain-form f) legal (tabled f n) (staffed-form f w) one below (w .length) .placed v l
@@ -69,12 +69,12 @@ module _ (f : Form) (w : WellFormed f) (legal : Legal (loopOf f) (pairOf f)) (z 
       bodied-within (loopOf f) (turnedBy f z) (sound-form f w)
       (turned-bodied (loopOf f) (pairOf f) z (startsOf f) (sound-form f w) (plain-form f) legal (tabled f n) (staffed-form f w) one below (w .length) (turnedBy f z) (λ v l. refl) refl refl)
 
-  ends-at : (v : ℕ) → v < f .nodes → startOf (rotated f z) v + latencyOf (rotated f z) v ≤ rotatedLength f z + 1
+  ends-at : (v : ℕ) → v < f .header .nodes → startOf (rotated f z) v + latencyOf (rotated f z) v ≤ rotatedLength f z + 1
   unfolding rotated withPair rotatedLength loopOf graphOf
   ends-at v l = omega (arith, step-at (rotatedStarts f z) v, length-ends (loopOf f) (rotatedStarts f z) v l)
 
   -- its length is not 0
-  pub rotated-form-some : 1 ≤ rotated f z .length
+  pub rotated-form-some : 1 ≤ rotated f z .header .length
   unfolding rotated withPair rotatedLength rotatedStarts pairOf
   rotated-form-some = turned-length (loopOf f) (pairOf f) z (startsOf f) (sound-form f w) (plain-form f) legal (tabled f n) (staffed-form f w) one below (w .length) .0
 
@@ -119,13 +119,13 @@ module _ (f : Form) (w : WellFormed f) (legal : Legal (loopOf f) (pairOf f)) (z 
     -- and the judge accepts it
     pub rotated-judged : judgeOf (rotated f z) ≡ None
     rotated-judged =
-        let some : rotated f z .length ≢ 0 = λ e. omega (arith, rotated-form-some) in
+        let some : rotated f z .header .length ≢ 0 = λ e. omega (arith, rotated-form-some) in
         accepts-judge (rotated f z) rotated-well-formed some (rotated-form-legal rotated-form-short)
 
     small-start : Held f → (v : ℕ) → v < 64 → startNumber (rotatedStarts f z) v < 65536
     unfolding rotatedStarts turnedStarts rotatedLength loopOf graphOf
     small-start h v m =
-        elim (decLt v (f .nodes)) [
+        elim (decLt v (f .header .nodes)) [
           | yes l ↦ omega (arith, rotated-form-short, length-ends (loopOf f) (rotatedStarts f z) v l)
           | no l ↦
               omega (

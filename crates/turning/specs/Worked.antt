@@ -37,7 +37,7 @@ smallForm =
 
 -- length, starts, retimings
 unfoldable pub pairIn : Form → List ℕ
-pairIn f = f .length ∷ (take 3 (startsOf f) ++ take 3 (f .retiming))
+pairIn f = f .header .length ∷ (take 3 (startsOf f) ++ take 3 (f .retiming))
 
 pub worked : (pairIn (firstForm smallForm) ≡ 4 ∷ 1 ∷ 3 ∷ 4 ∷ 0 ∷ 0 ∷ 0 ∷ [])
     × (pairIn (rotated (firstForm smallForm) 1) ≡ 3 ∷ 1 ∷ 2 ∷ 3 ∷ 1 ∷ 0 ∷ 0 ∷ [])

@@ -21,11 +21,11 @@ use form::Form;
 // The length of a body: the last step in which a node that starts as given is at work.
 fn length_of(form: Form, start: [BodyStep; 64]) -> u16
     requires { ⌜ WellFormed form ⌝ }
-    requires { ⌜ ((v : ℕ) → v < form .nodes → startNumber (numbersOf start) v ≤ 1023) ⌝ }
+    requires { ⌜ ((v : ℕ) → v < form .header .nodes → startNumber (numbersOf start) v ≤ 1023) ⌝ }
     ensures { λ r. ⌜ r ≡ lengthOf (loopOf form) (numbersOf start) ⌝ }
 {
     let mut last: u16 = 0;
-    for v in 0..form.nodes {
+    for v in 0..form.header.nodes {
         let i = v as usize;
         let class = form.class[form.node[i].class as usize];
         let end = start[i].0 + class.latency as u16 - 1;
@@ -40,7 +40,7 @@ fn length_of(form: Form, start: [BodyStep; 64]) -> u16
 fn with_pair(mut form: Form, start: [BodyStep; 64], length: u16, retiming: [u8; 64]) -> Form
     ensures { λ r. ⌜ r ≡ withPair form (numbersOf start) length retiming ⌝ }
 {
-    form.length = length;
+    form.header.length = length;
     form.start = start;
     form.retiming = retiming;
     form
@@ -92,11 +92,11 @@ fn gain(retiming: u8, start: u16, steps: u16) -> u8
 
 // The retimings of the nodes, 1 more for those that start in the first steps.
 fn gained(form: Form, steps: u16) -> [u8; 64]
-    requires { ⌜ WellFormed form × (form .length ≢ 0) ⌝ }
-    ensures { λ r. ⌜ ((v : ℕ) → v < form .nodes → getD r v 0 ≡ gainedBy (pairOf form) steps v) ⌝ }
+    requires { ⌜ WellFormed form × (form .header .length ≢ 0) ⌝ }
+    ensures { λ r. ⌜ ((v : ℕ) → v < form .header .nodes → getD r v 0 ≡ gainedBy (pairOf form) steps v) ⌝ }
 {
     let mut retiming = form.retiming;
-    for v in 0..form.nodes {
+    for v in 0..form.header.nodes {
         let i = v as usize;
         retiming[i] = gain(form.retiming[i], form.start[i].0, steps);
     }
@@ -106,7 +106,7 @@ fn gained(form: Form, steps: u16) -> [u8; 64]
 // The form with its starts rotated, its length taken anew, and retimings 0.
 fn turn_form(form: Form, steps: u16) -> Form
     requires { ⌜ WellFormed form × Legal (loopOf form) (pairOf form) ⌝ }
-    requires { ⌜ (1 ≤ steps) × (steps < form .length) ⌝ }
+    requires { ⌜ (1 ≤ steps) × (steps < form .header .length) ⌝ }
     ensures { λ r. ⌜ r ≡ turnedForm form steps ⌝ }
 {
     let start = form.start;
@@ -121,11 +121,11 @@ fn turn_form(form: Form, steps: u16) -> Form
 // The form rotated by so many steps; no retiming is fitted to more than 512 steps.
 pub fn rotate_form(form: Form, steps: u16) -> Form
     requires { ⌜ WellFormed form × Legal (loopOf form) (pairOf form) ⌝ }
-    requires { ⌜ (1 ≤ steps) × (steps < form .length) ⌝ }
+    requires { ⌜ (1 ≤ steps) × (steps < form .header .length) ⌝ }
     ensures { λ r. ⌜ r ≡ rotatedOr form steps ⌝ }
 {
     let turned = turn_form(form, steps);
-    let length = turned.length;
+    let length = turned.header.length;
     if 512 < length {
         return turned;
     }

@@ -37,9 +37,9 @@ copied l s m i h x = rw (take-all i s h) at x
 -- the header and the four tables are the whole layout
 pub whole : (f : Form) (l a b c d e : List ℕ) (h i j k n x y z w : ℕ)
     → Laid l 0 (headerBytes f) a h
-    → Laid a h (rows (λ i. classBytes (classOf f i)) x) b i → x ≡ min (f .classes) 4
-    → Laid b i (rows (λ v. nodeBytes (nodeOf f v)) y) c j → y ≡ min (f .nodes) 64
-    → Laid c j (rows (λ e. edgeBytes (edgeOf f e)) z) d k → z ≡ min (f .edges) 256
+    → Laid a h (rows (λ i. classBytes (classOf f i)) x) b i → x ≡ min (f .header .classes) 4
+    → Laid b i (rows (λ v. nodeBytes (nodeOf f v)) y) c j → y ≡ min (f .header .nodes) 64
+    → Laid c j (rows (λ e. edgeBytes (edgeOf f e)) z) d k → z ≡ min (f .header .edges) 256
     → Laid d k (rows (λ v. startBytes (startOf f v) (retimingOf f v)) w) e n → w ≡ min (scheduled f) 64
     → Laid l 0 (layout f) e n
 unfolding layout classRows nodeRows edgeRows startRows

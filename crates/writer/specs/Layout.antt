@@ -4,6 +4,7 @@ use mathlib.Core.List.{List, [], _∷_, _++_}
 use Prim.Native.Nat.{ℕ, min}
 use Rattle.laid.specs.Rows.{rows}
 use Rattle.form.specs.declared.Form.{Form}
+use Rattle.form.specs.declared.Header.{Header}
 use Rattle.form.specs.declared.Class.{Class}
 use Rattle.form.specs.declared.Node.{Node}
 use Rattle.form.specs.declared.Edge.{Edge}
@@ -37,21 +38,21 @@ unfoldable pub startBytes : ℕ → ℕ → List ℕ
 startBytes s r = bytesOf 2 s ++ (r ∷ [])
 
 -- the mark "RSK", version 1, C, N, E and L
-unfoldable pub countBytes : ℕ → ℕ → ℕ → ℕ → List ℕ
-countBytes classes nodes edges last = 82 ∷ 83 ∷ 75 ∷ 1 ∷ 0 ∷ classes ∷ nodes ∷ (bytesOf 2 edges ++ bytesOf 2 last)
+unfoldable pub countBytes : Header → List ℕ
+countBytes h = 82 ∷ 83 ∷ 75 ∷ 1 ∷ 0 ∷ h .classes ∷ h .nodes ∷ (bytesOf 2 (h .edges) ++ bytesOf 2 (h .length))
 
 abbrev pub headerBytes : Form → List ℕ
-headerBytes f = countBytes (f .classes) (f .nodes) (f .edges) (f .length)
+headerBytes f = countBytes (f .header)
 
 module _ (f : Form) where
   unfoldable pub classRows : List ℕ
-  classRows = rows (λ i. classBytes (classOf f i)) (min (f .classes) 4)
+  classRows = rows (λ i. classBytes (classOf f i)) (min (f .header .classes) 4)
 
   unfoldable pub nodeRows : List ℕ
-  nodeRows = rows (λ v. nodeBytes (nodeOf f v)) (min (f .nodes) 64)
+  nodeRows = rows (λ v. nodeBytes (nodeOf f v)) (min (f .header .nodes) 64)
 
   unfoldable pub edgeRows : List ℕ
-  edgeRows = rows (λ e. edgeBytes (edgeOf f e)) (min (f .edges) 256)
+  edgeRows = rows (λ e. edgeBytes (edgeOf f e)) (min (f .header .edges) 256)
 
   unfoldable pub startRows : List ℕ
   startRows = rows (λ v. startBytes (startOf f v) (retimingOf f v)) (min (scheduled f) 64)

@@ -17,6 +17,7 @@ use form::BodyStep;
 use form::Class;
 use form::Edge;
 use form::Form;
+use form::Header;
 use form::Node;
 use form::Operation;
 
@@ -48,20 +49,20 @@ fn constant_of(operation: Operation) -> u32
 }
 
 // Mark, version and the counts.
-fn put_header(out: &mut [u8; 1367], classes: u8, nodes: u8, edges: u16, length: u16) -> usize
-    ensures { λ r. ⌜ (r ≡ 11) × Laid (now (out .entry)) 0 (countBytes classes nodes edges length) (now (out .exit)) r ⌝ }
+fn put_header(out: &mut [u8; 1367], header: Header) -> usize
+    ensures { λ r. ⌜ (r ≡ 11) × Laid (now (out .entry)) 0 (countBytes header) (now (out .exit)) r ⌝ }
 {
     out[0] = b'R';
     out[1] = b'S';
     out[2] = b'K';
     out[3] = 1;
     out[4] = 0;
-    out[5] = classes;
-    out[6] = nodes;
-    out[7] = (edges % 256) as u8;
-    out[8] = (edges / 256 % 256) as u8;
-    out[9] = (length % 256) as u8;
-    out[10] = (length / 256 % 256) as u8;
+    out[5] = header.classes;
+    out[6] = header.nodes;
+    out[7] = (header.edges % 256) as u8;
+    out[8] = (header.edges / 256 % 256) as u8;
+    out[9] = (header.length % 256) as u8;
+    out[10] = (header.length / 256 % 256) as u8;
     11
 }
 
@@ -225,12 +226,17 @@ fn lay(out: &mut [u8; 1367], form: Form) -> usize
     let delays = form.delays;
     let start = form.start;
     let retiming = form.retiming;
-    let classes_at = put_header(out, form.classes, form.nodes, form.edges, form.length);
-    let nodes_at = put_classes(out, classes_at, class, rows_of(form.classes as u16, 4));
-    let edges_at = put_nodes(out, nodes_at, node, rows_of(form.nodes as u16, 64));
-    let edges = rows_of(form.edges, 256);
+    let classes_at = put_header(out, form.header);
+    let nodes_at = put_classes(
+        out,
+        classes_at,
+        class,
+        rows_of(form.header.classes as u16, 4),
+    );
+    let edges_at = put_nodes(out, nodes_at, node, rows_of(form.header.nodes as u16, 64));
+    let edges = rows_of(form.header.edges, 256);
     let starts_at = put_edges(out, edges_at, &from, &to, &delays, edges);
-    let scheduled = scheduled_of(form.length, form.nodes);
+    let scheduled = scheduled_of(form.header.length, form.header.nodes);
     put_starts(out, starts_at, start, retiming, rows_of(scheduled, 64))
 }
 

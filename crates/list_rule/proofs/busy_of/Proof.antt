@@ -10,10 +10,10 @@ use Rattle.list_rule.proofs.busy_of.Statement.{statement}
 use Rattle.list_rule.proofs.busy_of.Tie as tie
 
 abbrev Inv-loop : tie.InvT-loop
-Inv-loop form busy₀ v₀ v-end busy v = (v ≤ form .nodes) × Used form (startsOf form) v busy
+Inv-loop form busy₀ v₀ v-end busy v = (v ≤ form .header .nodes) × Used form (startsOf form) v busy
 
 abbrev μ-loop : tie.MeasureT-loop
-μ-loop form busy₀ v₀ v-end busy v = form .nodes - v
+μ-loop form busy₀ v₀ v-end busy v = form .header .nodes - v
 
 loop-holds : tie.Need-loop-holds Inv-loop μ-loop
 loop-holds c = (search needs, used-none _ _ _ (c .idle .ensures .0) (c .idle .ensures .1))

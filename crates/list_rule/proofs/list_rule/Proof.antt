@@ -24,10 +24,10 @@ abbrev μ-loop : tie.MeasureT-loop
 μ-loop form nodes order start busy times p waits i₀ v number class hold q₀ q-end i q = q-end - q
 
 abbrev Inv-nodes : tie.InvT-nodes
-Inv-nodes form nodes order start₀ busy₀ times p waits i₀ start busy i = (i ≤ form .nodes) × Trying form order start₀ p i start busy
+Inv-nodes form nodes order start₀ busy₀ times p waits i₀ start busy i = (i ≤ form .header .nodes) × Trying form order start₀ p i start busy
 
 abbrev μ-nodes : tie.MeasureT-nodes
-μ-nodes form nodes order start₀ busy₀ times p waits i₀ start busy i = form .nodes - i
+μ-nodes form nodes order start₀ busy₀ times p waits i₀ start busy i = form .header .nodes - i
 
 abbrev Inv-steps : tie.InvT-steps
 Inv-steps form nodes order start₀ busy₀ times p₀ start busy p = (1 ≤ p) × (p ≤ 1024) × Filling form p start busy
@@ -63,7 +63,7 @@ well c = begun c .before .before .before .before .pre .0 .0
 sorted : (c : tie.In-nodes Inv-loop μ-loop Inv-nodes μ-nodes Inv-steps μ-steps) → Ordered (begun c .before .before .before .before .args .t1) (begun c .before .before .before .order-of .result)
 sorted c = ordered (begun c)
 
-node-in : (c : tie.In-nodes Inv-loop μ-loop Inv-nodes μ-nodes Inv-steps μ-steps) → getD (begun c .before .before .before .order-of .result) (c .before .nodes .i) 0 < begun c .before .before .before .before .args .t1 .nodes
+node-in : (c : tie.In-nodes Inv-loop μ-loop Inv-nodes μ-nodes Inv-steps μ-steps) → getD (begun c .before .before .before .order-of .result) (c .before .nodes .i) 0 < begun c .before .before .before .before .args .t1 .header .nodes
 node-in c = ordered-in _ _ (well c) (sorted c) _ (c .nodes-test .taken)
 
 node-place : (c : tie.In-nodes Inv-loop μ-loop Inv-nodes μ-nodes Inv-steps μ-steps) → getD (begun c .before .before .before .order-of .result) (c .before .nodes .i) 0 < 64

@@ -14,10 +14,10 @@ use Rattle.plain.proofs.iterate_all.Tie as tie
 
 abbrev Inv-loop : tie.InvT-loop
 Inv-loop iterations starts values₀ form order links nodes turn₀ values turn =
-    Come (loopOf form) starts order iterations (form .nodes) values₀ turn values
+    Come (loopOf form) starts order iterations (form .header .nodes) values₀ turn values
 
 abbrev μ-loop : tie.MeasureT-loop
-μ-loop iterations starts values₀ form order links nodes turn₀ values turn = leftAt iterations (form .nodes) turn
+μ-loop iterations starts values₀ form order links nodes turn₀ values turn = leftAt iterations (form .header .nodes) turn
 
 links-of-requires : tie.Need-links-of-requires Inv-loop μ-loop
 links-of-requires c κs =
@@ -31,18 +31,18 @@ loop-holds c = come-first _ _ _ _ _ _ (c .before .before .before .before .before
 abbrev node : (c : tie.Then1 Inv-loop μ-loop) → ℕ
 node c = getD (c .before .before .before .before .before .before .before .before .args .t2) (c .before .before .loop .turn .place) 0
 
-node-in : (c : tie.Then1 Inv-loop μ-loop) → node c < c .before .before .before .before .before .before .before .before .args .t1 .nodes
+node-in : (c : tie.Then1 Inv-loop μ-loop) → node c < c .before .before .before .before .before .before .before .before .args .t1 .header .nodes
 node-in c = c .before .before .before .before .before .before .before .before .pre .1 .0 .1 _ (c .before .before .loop .inv .inside)
 
 node-small : (c : tie.Then1 Inv-loop μ-loop) → node c < 64
 node-small c = omega (arith, node-in c, c .before .before .before .before .before .before .before .before .pre .0 .nodes .1)
 
 -- its row is among the values
-row-in : (c : tie.Then1 Inv-loop μ-loop) → c .before .before .loop .turn .iteration * c .before .before .before .before .before .before .before .before .args .t1 .nodes + c .before .before .before .before .before .before .before .before .args .t1 .nodes ≤ length (c .before .before .loop .values)
+row-in : (c : tie.Then1 Inv-loop μ-loop) → c .before .before .loop .turn .iteration * c .before .before .before .before .before .before .before .before .args .t1 .header .nodes + c .before .before .before .before .before .before .before .before .args .t1 .header .nodes ≤ length (c .before .before .loop .values)
 row-in c =
     let s = c .before .before .before .before .before .before .before .before in
     let l = c .before .before .loop in
-    omega (arith, rows-below (l .turn .iteration) (s .args .iterations) (s .args .t1 .nodes) (c .if1 .taken), s .pre .1 .1 .1, l .inv .long)
+    omega (arith, rows-below (l .turn .iteration) (s .args .iterations) (s .args .t1 .header .nodes) (c .if1 .taken), s .pre .1 .1 .1, l .inv .long)
 
 array-read-v : tie.Need-array-read-v Inv-loop μ-loop
 array-read-v c = omega (arith, c .before .before .before .before .before .before .before .before .pre .1 .0 .0, c .before .before .before .before .before .before .before .before .pre .0 .nodes .1, c .before .before .loop .inv .inside)
@@ -51,7 +51,7 @@ cast-v : tie.Need-cast-v Inv-loop μ-loop
 cast-v c = omega (arith, node-small c)
 
 mul-row : tie.Need-mul-row Inv-loop μ-loop
-mul-row c = omega (arith, place-small (c .before .before .loop .turn .iteration) (c .before .before .before .before .before .before .before .before .args .t1 .nodes) 0 (omega arith) (omega arith) (omega arith))
+mul-row c = omega (arith, place-small (c .before .before .loop .turn .iteration) (c .before .before .before .before .before .before .before .before .args .t1 .header .nodes) 0 (omega arith) (omega arith) (omega arith))
 
 mul-node : tie.Need-mul-node Inv-loop μ-loop
 mul-node c = omega (arith, node-small c)
@@ -76,10 +76,10 @@ value-of-requires c κs =
     )
 
 add-values : tie.Need-add-values Inv-loop μ-loop
-add-values c = omega (arith, place-small (c .before .before .before .before .before .before .before .before .before .before .before .loop .turn .iteration) (c .before .before .before .before .before .before .before .before .before .before .before .before .before .before .before .before .before .args .t1 .nodes) (node (c .before .before .before .before .before .before .before .before .before)) (omega arith) (omega arith) (omega (arith, node-small (c .before .before .before .before .before .before .before .before .before))))
+add-values c = omega (arith, place-small (c .before .before .before .before .before .before .before .before .before .before .before .loop .turn .iteration) (c .before .before .before .before .before .before .before .before .before .before .before .before .before .before .before .before .before .args .t1 .header .nodes) (node (c .before .before .before .before .before .before .before .before .before)) (omega arith) (omega arith) (omega (arith, node-small (c .before .before .before .before .before .before .before .before .before))))
 
 mul-values : tie.Need-mul-values Inv-loop μ-loop
-mul-values c = omega (arith, place-small (c .before .before .before .before .before .before .before .before .before .before .before .loop .turn .iteration) (c .before .before .before .before .before .before .before .before .before .before .before .before .before .before .before .before .before .args .t1 .nodes) (node (c .before .before .before .before .before .before .before .before .before)) (omega arith) (omega arith) (omega (arith, node-small (c .before .before .before .before .before .before .before .before .before))))
+mul-values c = omega (arith, place-small (c .before .before .before .before .before .before .before .before .before .before .before .loop .turn .iteration) (c .before .before .before .before .before .before .before .before .before .before .before .before .before .before .before .before .before .args .t1 .header .nodes) (node (c .before .before .before .before .before .before .before .before .before)) (omega arith) (omega arith) (omega (arith, node-small (c .before .before .before .before .before .before .before .before .before))))
 
 slice-write-values : tie.Need-slice-write-values Inv-loop μ-loop
 slice-write-values c = omega (arith, row-in (c .before .before .before .before .before .before .before .before .before), node-in (c .before .before .before .before .before .before .before .before .before))
@@ -91,7 +91,7 @@ loop-less : tie.Need-loop-less Inv-loop μ-loop
 loop-less c =
     let s = c .before .before .before .before .before .before .before .before .before .before .before .before .before .before .before .before .before .before in
     let l = c .before .before .before .before .before .before .before .before .before .before .before .before .loop in
-    rw (c .after .ensures) (next-less (s .args .iterations) (s .args .t1 .nodes) (l .turn) (c .before .before .before .before .before .before .before .before .before .before .if1 .taken) (l .inv .inside))
+    rw (c .after .ensures) (next-less (s .args .iterations) (s .args .t1 .header .nodes) (l .turn) (c .before .before .before .before .before .before .before .before .before .before .if1 .taken) (l .inv .inside))
 
 loop-again : tie.Need-loop-again Inv-loop μ-loop
 unfolding loopOf graphOf
@@ -101,7 +101,7 @@ loop-again c =
     let l = c .before .before .before .before .before .before .before .before .before .before .before .before .loop in
     let links = c .before .before .before .before .before .before .before .before .before .before .before .before .before .links-of .ensures .chains in
     let v = node (c .before .before .before .before .before .before .before .before .before .before) in
-    rw (c .after .ensures) (come-more (loopOf f) (s .args .starts .now) (s .args .t2) (s .args .iterations) (f .nodes) (s .args .values .now) (l .turn) (l .values) (omega (arith, s .pre .1 .0 .0, s .pre .0 .nodes .1)) (c .before .before .before .before .before .before .before .before .before .before .if1 .taken) (l .inv) _
+    rw (c .after .ensures) (come-more (loopOf f) (s .args .starts .now) (s .args .t2) (s .args .iterations) (f .header .nodes) (s .args .values .now) (l .turn) (l .values) (omega (arith, s .pre .1 .0 .0, s .pre .0 .nodes .1)) (c .before .before .before .before .before .before .before .before .before .before .if1 .taken) (l .inv) _
     (c .before .value-of .ensures (loopOf f) v (form-tells f) (links-follow f _ _ links v (node-small (c .before .before .before .before .before .before .before .before .before .before)))))
 
 same-length : tie.Need-same-length Inv-loop μ-loop

@@ -28,9 +28,9 @@ returns-2 c =
 iterate-all-requires : tie.Need-iterate-all-requires
 iterate-all-requires c κs =
     let s = c .before .before .before .before .before .before .before .before .before .before .before .before .before .before .before .before .before in
-    let fits = room-for (s .args .t1 .nodes) _ _ _ _ (c .before .before .before .before .before .before .room-of .ensures) (sym (c .before .before .before .before .before .is-fine .ensures) ∙ not-false _ (c .before .before .before .before .if2 .left)) in
+    let fits = room-for (s .args .t1 .header .nodes) _ _ _ _ (c .before .before .before .before .before .before .room-of .ensures) (sym (c .before .before .before .before .before .is-fine .ensures) ∙ not-false _ (c .before .before .before .before .if2 .left)) in
     let o = c .before .order-of .ensures in
-    (s .pre, ((o .0, table-below _ (s .args .t1 .nodes) (s .args .t1 .nodes) _ (omega arith) (omega (arith, s .pre .nodes .0)) (o .1)), (fits .0, omega (arith, fits .1))))
+    (s .pre, ((o .0, table-below _ (s .args .t1 .header .nodes) (s .args .t1 .header .nodes) _ (omega arith) (omega (arith, s .pre .nodes .0)) (o .1)), (fits .0, omega (arith, fits .1))))
 
 returns-3 : tie.Need-returns-3
 returns-3 c =

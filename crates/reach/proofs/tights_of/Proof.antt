@@ -16,10 +16,10 @@ use Rattle.reach.proofs.tights_of.Tie as tie
 
 abbrev Inv-loop : tie.InvT-loop
 Inv-loop form tights₀ e₀ tights e =
-    (e ≤ form .edges) × (length tights ≡ 256) × ((k : ℕ) → k < e → tight (loopOf form) (retimingOf form) k ≡ eqb (getD tights k 0) 1)
+    (e ≤ form .header .edges) × (length tights ≡ 256) × ((k : ℕ) → k < e → tight (loopOf form) (retimingOf form) k ≡ eqb (getD tights k 0) 1)
 
 abbrev μ-loop : tie.MeasureT-loop
-μ-loop form tights₀ e₀ tights e = form .edges - e
+μ-loop form tights₀ e₀ tights e = form .header .edges - e
 
 ends : (c : tie.In-loop Inv-loop μ-loop) → (getD (c .before .before .args .t1 .from) (c .before .loop .e) 0 < 64) × (getD (c .before .before .args .t1 .to) (c .before .loop .e) 0 < 64)
 ends c =

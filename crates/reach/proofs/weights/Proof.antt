@@ -15,7 +15,7 @@ use Rattle.reach.proofs.weights.Tie as tie
 
 abbrev Inv-loop : tie.InvT-loop
 Inv-loop form tights out weights₀ v₀ v-end weights v =
-    (v-end ≡ form .nodes) × (v ≤ form .nodes) × (length weights ≡ 64) × (weights ≡ filled 64 (weight (loopOf form) (retimingOf form)) v)
+    (v-end ≡ form .header .nodes) × (v ≤ form .header .nodes) × (length weights ≡ 64) × (weights ≡ filled 64 (weight (loopOf form) (retimingOf form)) v)
 
 abbrev μ-loop : tie.MeasureT-loop
 μ-loop form tights out weights₀ v₀ v-end weights v = v-end - v

@@ -7,7 +7,8 @@ use lib.ListN.{length}
 use borrow.Author.Needs.{needs}
 use borrow.Author.Tests.{not-true, not-false}
 use Rattle.form.specs.declared.Form.{Form}
-use Rattle.reader.specs.Tables.{classStep, withClasses}
+use Rattle.form.specs.Places.{withClasses}
+use Rattle.reader.specs.Tables.{classStep}
 use Rattle.reader.proofs.Laws.{Going, begin, turn, stop, finish}
 use Rattle.reader.proofs.classes.Statement.{statement}
 use Rattle.reader.proofs.classes.Tie as tie

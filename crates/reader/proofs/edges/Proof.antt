@@ -7,7 +7,8 @@ use lib.ListN.{length}
 use borrow.Author.Needs.{needs}
 use borrow.Author.Tests.{not-true, not-false}
 use Rattle.form.specs.declared.Form.{Form}
-use Rattle.reader.specs.Tables.{edgeStep, withEdges}
+use Rattle.form.specs.Places.{withEdges}
+use Rattle.reader.specs.Tables.{edgeStep}
 use Rattle.reader.proofs.Laws.{Going, begin, turn, stop, finish}
 use Rattle.reader.proofs.edges.Statement.{statement}
 use Rattle.reader.proofs.edges.Tie as tie
@@ -18,7 +19,7 @@ Inv-loop s nodes count from₀ to₀ delays₀ next₀ end i₀ from to delays n
     × (length to ≡ 256)
     × (length delays ≡ 256)
     × (next .at ≤ next₀ .at + 3 * i)
-    × ((f : Form) → f .nodes ≡ nodes → Going (edgeStep s) end (record { form = withEdges f from₀ to₀ delays₀; next = next₀ }) 3 i (record { form = withEdges f from to delays; next = next }))
+    × ((f : Form) → f .header .nodes ≡ nodes → Going (edgeStep s) end (record { form = withEdges f from₀ to₀ delays₀; next = next₀ }) 3 i (record { form = withEdges f from to delays; next = next }))
 
 abbrev μ-loop : tie.MeasureT-loop
 μ-loop s nodes count from₀ to₀ delays₀ next₀ end i₀ from to delays next i = end - i

@@ -7,7 +7,8 @@ use lib.ListN.{length}
 use borrow.Author.Needs.{needs}
 use borrow.Author.Tests.{not-true, not-false}
 use Rattle.form.specs.declared.Form.{Form}
-use Rattle.reader.specs.Tables.{nodeStep, withNodes}
+use Rattle.form.specs.Places.{withNodes}
+use Rattle.reader.specs.Tables.{nodeStep}
 use Rattle.reader.proofs.Laws.{Going, begin, turn, stop, finish}
 use Rattle.reader.proofs.nodes.Statement.{statement}
 use Rattle.reader.proofs.nodes.Tie as tie
@@ -16,7 +17,7 @@ abbrev Inv-loop : tie.InvT-loop
 Inv-loop s classes count node₀ next₀ end i₀ node next i =
     (length node ≡ 64)
     × (next .at ≤ next₀ .at + 6 * i)
-    × ((f : Form) → f .classes ≡ classes → Going (nodeStep s) end (record { form = withNodes f node₀; next = next₀ }) 6 i (record { form = withNodes f node; next = next }))
+    × ((f : Form) → f .header .classes ≡ classes → Going (nodeStep s) end (record { form = withNodes f node₀; next = next₀ }) 6 i (record { form = withNodes f node; next = next }))
 
 abbrev μ-loop : tie.MeasureT-loop
 μ-loop s classes count node₀ next₀ end i₀ node next i = end - i

@@ -29,4 +29,5 @@ none-is-zero-spec =
     (λ c. search needs)
     (λ c. search needs)
     (λ c. search needs)
+    (λ c. search needs)
     returns-2)

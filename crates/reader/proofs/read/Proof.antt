@@ -4,8 +4,7 @@ use mathlib.Core.Path.{refl, sym, _∙_}
 use native.Mathlib.Omega.{arith}
 use borrow.Author.Needs.{needs}
 use borrow.Author.Tests.{not-true, not-false}
-use Rattle.form.specs.Places.{emptyForm, withCounts}
-use Rattle.reader.specs.Tables.{withClasses, withNodes}
+use Rattle.form.specs.Places.{emptyForm, withCounts, withClasses, withNodes}
 use Rattle.reader.proofs.Laws.{answered-refused, answered-fine}
 use Rattle.reader.proofs.read.Statement.{statement}
 use Rattle.reader.proofs.read.Tie as tie
@@ -87,14 +86,15 @@ returns c =
 
 returns-2 : tie.Need-returns-2
 returns-2 c =
-    let end = c .before .before .before .before .before .before in
+    let ends = c .before .before .before .before in
+    let end = ends .before .before .before in
     let x = end .before .before in
     let n = x .before in
     let e = n .before in
     let v = e .before .before in
     let k = v .before .before in
     answered-fine _ _ _ _ _ _ _ (k .before .header .ensures) (k .classes .ensures) (v .nodes .ensures) (e .edges .ensures) (n .scheduled-nodes .ensures .0) (x .starts .ensures) _ (end .end-of .ensures)
-    (sym (c .before .before .before .before .before .is-fine .ensures) ∙ not-false _ (c .before .before .before .before .if1 .left))
+    (sym (ends .before .before .is-fine .ensures) ∙ not-false _ (ends .before .if1 .left))
 
 pub read-spec : {M : Type 1} → statement M
 read-spec =

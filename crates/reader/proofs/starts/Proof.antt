@@ -7,7 +7,8 @@ use lib.ListN.{length}
 use borrow.Author.Needs.{needs}
 use borrow.Author.Tests.{not-true, not-false}
 use Rattle.form.specs.declared.Form.{Form}
-use Rattle.reader.specs.Tables.{startStep, withStarts}
+use Rattle.form.specs.Places.{withStarts}
+use Rattle.reader.specs.Tables.{startStep}
 use Rattle.reader.proofs.Laws.{Going, begin, turn, stop, finish}
 use Rattle.reader.proofs.starts.Statement.{statement}
 use Rattle.reader.proofs.starts.Tie as tie
@@ -17,7 +18,7 @@ Inv-loop s l class count node start₀ retiming₀ next₀ i₀ start retiming n
     (length start ≡ 64)
     × (length retiming ≡ 64)
     × (next .at ≤ next₀ .at + 3 * i)
-    × ((f : Form) → f .length ≡ l → f .class ≡ class → f .node ≡ node → Going (startStep s) count (record { form = withStarts f start₀ retiming₀; next = next₀ }) 3 i (record { form = withStarts f start retiming; next = next }))
+    × ((f : Form) → f .header .length ≡ l → f .class ≡ class → f .node ≡ node → Going (startStep s) count (record { form = withStarts f start₀ retiming₀; next = next₀ }) 3 i (record { form = withStarts f start retiming; next = next }))
 
 abbrev μ-loop : tie.MeasureT-loop
 μ-loop s l class count node start₀ retiming₀ next₀ i₀ start retiming next i = count - i

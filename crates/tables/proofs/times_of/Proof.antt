@@ -12,7 +12,7 @@ use Rattle.tables.proofs.times_of.Tie as tie
 
 abbrev Inv-loop : tie.InvT-loop
 Inv-loop form class node begins retiming kind₀ latency₀ start₀ nodes v₀ runs latency start v =
-    (v ≤ nodes) × (nodes ≡ form .nodes) × (runs ≡ filled 64 (λ u. nodeOf form u .class) v) × (latency ≡ filled 64 (latencyOf form) v) × (start ≡ filled 64 (startOf form) v)
+    (v ≤ nodes) × (nodes ≡ form .header .nodes) × (runs ≡ filled 64 (λ u. nodeOf form u .class) v) × (latency ≡ filled 64 (latencyOf form) v) × (start ≡ filled 64 (startOf form) v)
 
 abbrev μ-loop : tie.MeasureT-loop
 μ-loop form class node begins retiming kind₀ latency₀ start₀ nodes v₀ runs latency start v = nodes - v

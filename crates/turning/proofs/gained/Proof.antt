@@ -9,10 +9,10 @@ use Rattle.turning.proofs.gained.Statement.{statement}
 use Rattle.turning.proofs.gained.Tie as tie
 
 abbrev Inv-loop : tie.InvT-loop
-Inv-loop steps form retiming₀ v₀ v-end retiming v = (v ≤ form .nodes) × Gained form steps v retiming
+Inv-loop steps form retiming₀ v₀ v-end retiming v = (v ≤ form .header .nodes) × Gained form steps v retiming
 
 abbrev μ-loop : tie.MeasureT-loop
-μ-loop steps form retiming₀ v₀ v-end retiming v = form .nodes - v
+μ-loop steps form retiming₀ v₀ v-end retiming v = form .header .nodes - v
 
 loop-holds : tie.Need-loop-holds Inv-loop μ-loop
 loop-holds c = (omega arith, gained-none _ _ _ (search tests))

@@ -10,10 +10,10 @@ use Rattle.turning.proofs.length_of.Statement.{statement}
 use Rattle.turning.proofs.length_of.Tie as tie
 
 abbrev Inv-loop : tie.InvT-loop
-Inv-loop form start last₀ v₀ v-end last v = (v ≤ form .nodes) × (last ≡ lastOf form start v)
+Inv-loop form start last₀ v₀ v-end last v = (v ≤ form .header .nodes) × (last ≡ lastOf form start v)
 
 abbrev μ-loop : tie.MeasureT-loop
-μ-loop form start last₀ v₀ v-end last v = form .nodes - v
+μ-loop form start last₀ v₀ v-end last v = form .header .nodes - v
 
 loop-holds : tie.Need-loop-holds Inv-loop μ-loop
 loop-holds c = (search needs, last-none _ _)
