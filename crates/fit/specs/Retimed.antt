@@ -10,6 +10,7 @@ use Rattle.answer.specs.Outcome.{noCycle, edgesOf}
 use Rattle.answer.specs.Tally.{Tallies}
 use Rattle.system.specs.Rounds.{settledOf}
 use Rattle.form.specs.declared.Form.{Form}
+use Rattle.form.specs.Places.{withStarts}
 use Rattle.legal.specs.Loop.{Loop, Pair, loopOf, pairOf}
 use Rattle.legal.specs.Systems.{limits, Impossible}
 use Rattle.legal.specs.Fitted.{fitted}
@@ -22,16 +23,7 @@ retimings g p = filled 64 (fitted g p) (g .graph .nodes)
 
 -- the form with another retiming
 unfoldable pub withRetiming : Form → List ℕ → Form
-withRetiming f rs = record {
-  header = f .header;
-  class = f .class;
-  node = f .node;
-  from = f .from;
-  to = f .to;
-  delays = f .delays;
-  start = f .start;
-  retiming = rs;
-}
+withRetiming f rs = withStarts f (f .start) rs
 
 unfoldable pub fittedForm : Form → Form
 fittedForm f = withRetiming f (retimings (loopOf f) (pairOf f))

@@ -93,8 +93,7 @@ impl Form {
     pub fn add_class(mut self, class: Class) -> Added
         ensures { λ a. ⌜ a ≡ classAdded self class ⌝ }
     {
-        let mut header = self.header;
-        let classes = header.classes;
+        let classes = self.header.classes;
         if 4 <= classes {
             return Added {
                 form: self,
@@ -103,9 +102,8 @@ impl Form {
         }
         let at = classes as usize;
         self.class[at] = class;
-        header.classes = classes + 1;
-        header.length = 0; // a schedule is of the loop as it was
-        self.header = header;
+        self.header.classes = classes + 1;
+        self.header.length = 0; // a schedule is of the loop as it was
         Added {
             form: self,
             refusal: Refusal::None,
@@ -116,8 +114,7 @@ impl Form {
     pub fn add_node(mut self, node: Node) -> Added
         ensures { λ a. ⌜ a ≡ nodeAdded self node ⌝ }
     {
-        let mut header = self.header;
-        let nodes = header.nodes;
+        let nodes = self.header.nodes;
         if 64 <= nodes {
             return Added {
                 form: self,
@@ -126,9 +123,8 @@ impl Form {
         }
         let at = nodes as usize;
         self.node[at] = node;
-        header.nodes = nodes + 1;
-        header.length = 0;
-        self.header = header;
+        self.header.nodes = nodes + 1;
+        self.header.length = 0;
         Added {
             form: self,
             refusal: Refusal::None,
@@ -139,8 +135,7 @@ impl Form {
     pub fn add_edge(mut self, edge: Edge) -> Added
         ensures { λ a. ⌜ a ≡ edgeAdded self edge ⌝ }
     {
-        let mut header = self.header;
-        let edges = header.edges;
+        let edges = self.header.edges;
         if 256 <= edges {
             return Added {
                 form: self,
@@ -151,9 +146,8 @@ impl Form {
         self.from[at] = edge.from;
         self.to[at] = edge.to;
         self.delays[at] = edge.delays;
-        header.edges = edges + 1;
-        header.length = 0;
-        self.header = header;
+        self.header.edges = edges + 1;
+        self.header.length = 0;
         Added {
             form: self,
             refusal: Refusal::None,

@@ -12,7 +12,7 @@ use Rattle.lists.specs.Fold.{top}
 use Rattle.lists.specs.Sums.{top-snoc}
 use Rattle.form.specs.declared.Form.{Form}
 use Rattle.form.specs.declared.BodyStep.{BodyStep}
-use Rattle.form.specs.Places.{noStep, nodeOf, latencyOf}
+use Rattle.form.specs.Places.{noStep, nodeOf, latencyOf, withCounts, withStarts}
 use Rattle.form.specs.Ranges.{WellFormed}
 use Rattle.legal.specs.Loop.{graphOf, loopOf}
 use Rattle.list_rule.specs.Rule.{startNumber, lengthOf}
@@ -66,16 +66,7 @@ steps-back (x ∷ xs) = ap (λ (l : List BodyStep). x ∷ l) (steps-back xs)
 
 -- what the fields are set to
 abbrev withSteps : Form → List BodyStep → ℕ → List ℕ → Form
-withSteps f s l r = record {
-  header = record { classes = f .header .classes; nodes = f .header .nodes; edges = f .header .edges; length = l };
-  class = f .class;
-  node = f .node;
-  from = f .from;
-  to = f .to;
-  delays = f .delays;
-  start = s;
-  retiming = r;
-}
+withSteps f s l r = withCounts (withStarts f s r) (f .header .classes) (f .header .nodes) (f .header .edges) l
 
 pub paired : (f : Form) (s : List BodyStep) (l : ℕ) (r : List ℕ) → withSteps f s l r ≡ withPair f (numbersOf s) l r
 unfolding withPair
