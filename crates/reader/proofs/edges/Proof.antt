@@ -41,7 +41,7 @@ loop-again c =
       search needs,
       search needs,
       omega arith,
-      λ f k. turn _ _ _ _ _ _ (l .loop .inv .4 f k) (t .taken) (sym (q .is-fine .ensures) ∙ not-false _ (c .before .before .before .if1 .left)) _ (rw (c .before .before .edge-row .ensures .is, k)) refl refl refl refl (omega (arith, c .before .before .edge-row .ensures .near)),
+      λ f k. turn _ _ _ _ _ _ (l .loop .inv .4 f k) (t .taken) (sym (q .is-fine .ensures) ∙ not-false _ (c .before .before .before .if1 .left)) _ (rw (c .before .before .edge-row .ensures .is, k)) (omega (arith, c .before .before .edge-row .ensures .near)),
     )
 
 returns-2 : tie.Need-returns-2 Inv-loop μ-loop

@@ -39,7 +39,7 @@ loop-again c =
       search needs,
       search needs,
       omega arith,
-      λ f k m n. turn _ _ _ _ _ _ (l .loop .inv .3 f k m n) (t .taken) (sym (q .is-fine .ensures) ∙ not-false _ (c .before .before .before .before .before .if1 .left)) _ (rw (c .before .before .start-row .ensures .is, c .before .before .before .latency-of .ensures, k, m, n)) refl refl refl refl (omega (arith, c .before .before .start-row .ensures .near)),
+      λ f k m n. turn _ _ _ _ _ _ (l .loop .inv .3 f k m n) (t .taken) (sym (q .is-fine .ensures) ∙ not-false _ (c .before .before .before .before .before .if1 .left)) _ (rw (c .before .before .start-row .ensures .is, c .before .before .before .latency-of .ensures, k, m, n)) (omega (arith, c .before .before .start-row .ensures .near)),
     )
 
 returns-2 : tie.Need-returns-2 Inv-loop μ-loop
