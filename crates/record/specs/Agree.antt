@@ -145,42 +145,42 @@ module _ (f : Form) (h : Held f) (rest : List ℕ) where
       let slot : (v : ℕ) → v < t → slotOf g v ≡ slotOf f v = λ v l. slot-agrees _ _ _ _ _ x p v (omega (arith, starts-same k)) (omega (arith, starts-same k)) in
       let free : (v : ℕ) → t ≤ v → slotOf g v ≡ noSlot = λ v l. p .start .rest v (omega (arith, starts-same k)) in
       λ i. record {
-        classes = (p .classes ∙ k .classes) i;
-        nodes = (p .nodes ∙ k .nodes) i;
-        edges = (p .edges ∙ k .edges) i;
-        length = (p .last ∙ k .last) i;
+        classes = (p .counts .classes ∙ k .classes) i;
+        nodes = (p .counts .nodes ∙ k .nodes) i;
+        edges = (p .counts .edges ∙ k .edges) i;
+        length = (p .counts .last ∙ k .last) i;
         class =
-            first-is (f .classes) noClass (f .class) (g .class) (p .sized .class ∙ sym (h .sized .class))
+            first-is (f .classes) noClass (f .class) (g .class) (p .class .sized ∙ sym (h .sized .class))
             (λ j l. class-agrees _ _ _ _ _ x p j (omega (arith, k .classes)) (omega (arith, k .classes)))
             (λ j l. p .class .rest j (omega (arith, k .classes)))
             i;
         node =
-            first-is (f .nodes) noNode (f .node) (g .node) (p .sized .node ∙ sym (h .sized .node))
+            first-is (f .nodes) noNode (f .node) (g .node) (p .node .sized ∙ sym (h .sized .node))
             (λ j l. node-agrees _ _ _ _ _ x p j (omega (arith, k .nodes)) (omega (arith, k .nodes)))
             (λ j l. p .node .rest j (omega (arith, k .nodes)))
             i;
         from =
-            first-is (f .edges) 0 (f .from) (g .from) (p .sized .from ∙ sym (h .sized .from))
+            first-is (f .edges) 0 (f .from) (g .from) (p .edge .sized .0 ∙ sym (h .sized .from))
             (λ j l. ap (λ (q : Edge). q .from) (edge j l))
             (λ j l. ap (λ (q : Edge). q .from) (past j l))
             i;
         to =
-            first-is (f .edges) 0 (f .to) (g .to) (p .sized .to ∙ sym (h .sized .to))
+            first-is (f .edges) 0 (f .to) (g .to) (p .edge .sized .1 ∙ sym (h .sized .to))
             (λ j l. ap (λ (q : Edge). q .to) (edge j l))
             (λ j l. ap (λ (q : Edge). q .to) (past j l))
             i;
         delays =
-            first-is (f .edges) 0 (f .delays) (g .delays) (p .sized .delays ∙ sym (h .sized .delays))
+            first-is (f .edges) 0 (f .delays) (g .delays) (p .edge .sized .2 ∙ sym (h .sized .delays))
             (λ j l. ap (λ (q : Edge). q .delays) (edge j l))
             (λ j l. ap (λ (q : Edge). q .delays) (past j l))
             i;
         start =
-            first-is t noStep (f .start) (g .start) (p .sized .start ∙ sym (h .sized .start))
+            first-is t noStep (f .start) (g .start) (p .start .sized .0 ∙ sym (h .sized .start))
             (λ j l. ap (λ (q : Slot). q .start) (slot j l))
             (λ j l. ap (λ (q : Slot). q .start) (free j l))
             i;
         retiming =
-            first-is t 0 (f .retiming) (g .retiming) (p .sized .retiming ∙ sym (h .sized .retiming))
+            first-is t 0 (f .retiming) (g .retiming) (p .start .sized .1 ∙ sym (h .sized .retiming))
             (λ j l. ap (λ (q : Slot). q .retiming) (slot j l))
             (λ j l. ap (λ (q : Slot). q .retiming) (free j l))
             i;

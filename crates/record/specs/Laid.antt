@@ -60,7 +60,7 @@ module _ (f : Form) (h : Held f) (rest : List ℕ) (tail : Bytes rest) where
       record {
         low = omega arith;
         high = omega arith;
-        never = λ w. never (omega (arith, w .node v (omega (arith, k .nodes)), p .classes, k .classes));
+        never = λ w. never (omega (arith, w .node v (omega (arith, k .nodes)), p .counts .classes, k .classes));
       })
       .off e
 
@@ -75,7 +75,7 @@ module _ (f : Form) (h : Held f) (rest : List ℕ) (tail : Bytes rest) where
       record {
         low = omega arith;
         high = omega arith;
-        never = λ w. never (subst (λ (n : ℕ). GoodEdge n (edgeOf f i)) (sym (p .nodes ∙ k .nodes)) (w .edge i (omega (arith, k .edges))));
+        never = λ w. never (subst (λ (n : ℕ). GoodEdge n (edgeOf f i)) (sym (p .counts .nodes ∙ k .nodes)) (w .edge i (omega (arith, k .edges))));
       })
       .off e
 
@@ -95,7 +95,7 @@ module _ (f : Form) (h : Held f) (rest : List ℕ) (tail : Bytes rest) where
       let ne : f .length ≢ 0 = λ z. omega (arith, starts-same f h rest k, scheduled-none (f .length) (f .nodes) z) in
       let never : WellFormed f → GoodSlot (x .form .length) (latencyOf (x .form) v) (slotOf f v) = λ w.
       let g : GoodStart f v = w .schedule ne .starts v (omega (arith, k .nodes)) in
-      record { begins = g .begins; ends = omega (arith, g .ends, latency-agrees v x p m, p .last, k .last); retiming = g .retiming } in
+      record { begins = g .begins; ends = omega (arith, g .ends, latency-agrees v x p m, p .counts .last, k .last); retiming = g .retiming } in
       start-walks (Faulty f) (followed f rest) (x .next) at (at + 3) (walks-at (Faulty f) (x .next) at (p .next)) (x .form .length) (latencyOf (x .form) v) (slotOf f v)
       (h .start v (omega (arith, p .head .nodes))) (start-laid f h rest k v l) refl
       (λ no a. (record { low = omega arith; high = omega arith; never = λ w. no (never w) }, record { low = omega arith; high = omega arith; never = λ w. no (never w) }))

@@ -40,25 +40,25 @@ header-same f g c n e l = rw (c, n, e, l)
 -- a record of which every row is read
 module _ (s : List ℕ) (x : Reading) (p : StartsSofar s (headStarts s) x) where
   starts-is : scheduledOf (x .form .length) (x .form .nodes) ≡ headStarts s
-  starts-is = ap₂ scheduledOf (p .last) (p .nodes)
+  starts-is = ap₂ scheduledOf (p .counts .last) (p .counts .nodes)
 
   -- it is well-formed
   pub whole-well-formed : normalized (x .form .length) (x .form .nodes) (x .form .retiming) ≡ true → WellFormed (x .form)
   whole-well-formed normal =
       record {
-        classes = omega (arith, p .classes, p .head .classes);
-        nodes = omega (arith, p .nodes, p .head .nodes);
-        edges = omega (arith, p .edges, p .head .edges);
-        length = omega (arith, p .last, p .head .last);
-        class = λ i l. p .class .good i (omega (arith, p .classes));
-        node = λ v l. omega (arith, p .node .good v (omega (arith, p .nodes)) .class, p .classes);
-        edge = λ e l. subst (λ (n : ℕ). GoodEdge n (edgeOf (x .form) e)) (sym (p .nodes)) (p .edge .good e (omega (arith, p .edges)));
+        classes = omega (arith, p .counts .classes, p .head .classes);
+        nodes = omega (arith, p .counts .nodes, p .head .nodes);
+        edges = omega (arith, p .counts .edges, p .head .edges);
+        length = omega (arith, p .counts .last, p .head .last);
+        class = λ i l. p .class .good i (omega (arith, p .counts .classes));
+        node = λ v l. omega (arith, p .node .good v (omega (arith, p .counts .nodes)) .class, p .counts .classes);
+        edge = λ e l. subst (λ (n : ℕ). GoodEdge n (edgeOf (x .form) e)) (sym (p .counts .nodes)) (p .edge .good e (omega (arith, p .counts .edges)));
         schedule =
             λ ne. record {
               starts =
                   λ v l.
                   let g = p .start .good v (omega (arith, starts-is, scheduled-all (x .form .length) (x .form .nodes) ne)) in
-                  record { begins = g .begins; ends = omega (arith, g .ends, p .last); retiming = g .retiming };
+                  record { begins = g .begins; ends = omega (arith, g .ends, p .counts .last); retiming = g .retiming };
               least = some-zero (x .form .nodes) (x .form .retiming) (sym (normal-some (x .form .length) (x .form .nodes) (x .form .retiming) ne) ∙ normal);
             };
       }
@@ -69,15 +69,15 @@ module _ (s : List ℕ) (x : Reading) (p : StartsSofar s (headStarts s) x) where
   whole-used =
       let f : Form = x .form in
       let t : ℕ = scheduledOf (f .length) (f .nodes) in
-      let edge : (i : ℕ) → f .edges ≤ i → edgeOf f i ≡ noEdge = λ i l. p .edge .rest i (omega (arith, p .edges)) in
+      let edge : (i : ℕ) → f .edges ≤ i → edgeOf f i ≡ noEdge = λ i l. p .edge .rest i (omega (arith, p .counts .edges)) in
       let slot : (v : ℕ) → t ≤ v → slotOf f v ≡ noSlot = λ v l. p .start .rest v (omega (arith, starts-is)) in
       λ i. record {
         classes = f .classes;
         nodes = f .nodes;
         edges = f .edges;
         length = f .length;
-        class = first-self (f .classes) noClass (f .class) (λ j l. p .class .rest j (omega (arith, p .classes))) i;
-        node = first-self (f .nodes) noNode (f .node) (λ v l. p .node .rest v (omega (arith, p .nodes))) i;
+        class = first-self (f .classes) noClass (f .class) (λ j l. p .class .rest j (omega (arith, p .counts .classes))) i;
+        node = first-self (f .nodes) noNode (f .node) (λ v l. p .node .rest v (omega (arith, p .counts .nodes))) i;
         from = first-self (f .edges) 0 (f .from) (λ e l. ap (λ (k : Edge). k .from) (edge e l)) i;
         to = first-self (f .edges) 0 (f .to) (λ e l. ap (λ (k : Edge). k .to) (edge e l)) i;
         delays = first-self (f .edges) 0 (f .delays) (λ e l. ap (λ (k : Edge). k .delays) (edge e l)) i;
@@ -88,19 +88,19 @@ module _ (s : List ℕ) (x : Reading) (p : StartsSofar s (headStarts s) x) where
   class-rows : classRows (x .form) ≡ take (3 * headClasses s) (drop 11 s)
   unfolding classRows
   class-rows =
-      let m : min (x .form .classes) 4 ≡ headClasses s = omega (arith, p .classes, p .head .classes) in
+      let m : min (x .form .classes) 4 ≡ headClasses s = omega (arith, p .counts .classes, p .head .classes) in
       rw m (rows-cut _ 3 s 11 (headClasses s) (p .class .laid))
 
   node-rows : nodeRows (x .form) ≡ take (6 * headNodes s) (drop (nodesFrom s) s)
   unfolding nodeRows
   node-rows =
-      let m : min (x .form .nodes) 64 ≡ headNodes s = omega (arith, p .nodes, p .head .nodes) in
+      let m : min (x .form .nodes) 64 ≡ headNodes s = omega (arith, p .counts .nodes, p .head .nodes) in
       rw m (rows-cut _ 6 s (nodesFrom s) (headNodes s) (p .node .laid))
 
   edge-rows : edgeRows (x .form) ≡ take (3 * headEdges s) (drop (edgesFrom s) s)
   unfolding edgeRows
   edge-rows =
-      let m : min (x .form .edges) 256 ≡ headEdges s = omega (arith, p .edges, p .head .edges) in
+      let m : min (x .form .edges) 256 ≡ headEdges s = omega (arith, p .counts .edges, p .head .edges) in
       rw m (rows-cut _ 3 s (edgesFrom s) (headEdges s) (p .edge .laid))
 
   start-rows : startRows (x .form) ≡ take (3 * headStarts s) (drop (startsFrom s) s)
@@ -113,7 +113,7 @@ module _ (s : List ℕ) (x : Reading) (p : StartsSofar s (headStarts s) x) where
   pub whole-layout : layout (x .form) ≡ take (x .next .at) s
   unfolding layout
   whole-layout =
-      let header : headerBytes (x .form) ≡ take 11 s = header-same (x .form) (headerOf s .form) (p .classes) (p .nodes) (p .edges) (p .last) ∙ p .head .laid in
+      let header : headerBytes (x .form) ≡ take 11 s = header-same (x .form) (headerOf s .form) (p .counts .classes) (p .counts .nodes) (p .counts .edges) (p .counts .last) ∙ p .head .laid in
       let at : x .next .at ≡ startsFrom s + 3 * headStarts s = ap (λ (c : Cursor). c .at) (p .next) in
       let all : 11 + (3 * headClasses s + (6 * headNodes s + (3 * headEdges s + 3 * headStarts s))) ≡ x .next .at = omega arith in
       rw (
@@ -134,11 +134,11 @@ module _ (s : List ℕ) (x : Reading) (p : StartsSofar s (headStarts s) x) where
   whole-end =
       let at : x .next .at ≡ startsFrom s + 3 * headStarts s = ap (λ (c : Cursor). c .at) (p .next) in
       let fits : CountsFit (x .form) = record {
-        classes = omega (arith, p .classes, p .head .classes);
-        nodes = omega (arith, p .nodes, p .head .nodes);
-        edges = omega (arith, p .edges, p .head .edges);
+        classes = omega (arith, p .counts .classes, p .head .classes);
+        nodes = omega (arith, p .counts .nodes, p .head .nodes);
+        edges = omega (arith, p .counts .edges, p .head .edges);
       } in
-      omega (arith, fits-length (x .form) fits, p .classes, p .nodes, p .edges, starts-is)
+      omega (arith, fits-length (x .form) fits, p .counts .classes, p .counts .nodes, p .counts .edges, starts-is)
 
 -- the record at the front, where nothing is refused of it
 module _ (s : List ℕ) (b : Bytes s) (f : fine (prefixOf s .refusal) ≡ true) where

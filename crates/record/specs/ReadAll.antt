@@ -56,7 +56,7 @@ module _ (s : List ℕ) (b : Bytes s) (Q : Refusal → Type 0)
   nodes-run =
       runs-on (nodeStep s) (classesRead s .form .nodes) 0 (classesRead s) classes-run
       (λ f p.
-      table-runs (nodeStep s) (NodesSofar s) Q (headNodes s) (λ v x l q. record { on = node-on s b v x l q; off = node-off v x l q }) (classesRead s .form .nodes) 0 (classesRead s) (omega (arith, p .nodes)) f
+      table-runs (nodeStep s) (NodesSofar s) Q (headNodes s) (λ v x l q. record { on = node-on s b v x l q; off = node-off v x l q }) (classesRead s .form .nodes) 0 (classesRead s) (omega (arith, p .counts .nodes)) f
       (moved s (headClasses s) 0 0 0 _ (nodesFrom s + 6 * 0) (classesRead s) (omega arith) p))
 
   edges-run : Runs (EdgesSofar s (headEdges s)) Q (edgesRead s)
@@ -64,7 +64,7 @@ module _ (s : List ℕ) (b : Bytes s) (Q : Refusal → Type 0)
   edges-run =
       runs-on (edgeStep s) (nodesRead s .form .edges) 0 (nodesRead s) nodes-run
       (λ f p.
-      table-runs (edgeStep s) (EdgesSofar s) Q (headEdges s) (λ e x l q. record { on = edge-on s b e x l q; off = edge-off e x l q }) (nodesRead s .form .edges) 0 (nodesRead s) (omega (arith, p .edges)) f
+      table-runs (edgeStep s) (EdgesSofar s) Q (headEdges s) (λ e x l q. record { on = edge-on s b e x l q; off = edge-off e x l q }) (nodesRead s .form .edges) 0 (nodesRead s) (omega (arith, p .counts .edges)) f
       (moved s (headClasses s) (headNodes s) 0 0 _ (edgesFrom s + 3 * 0) (nodesRead s) (omega arith) p))
 
   -- a whole record: all of its rows are read, or Q of the refusal
@@ -75,7 +75,7 @@ module _ (s : List ℕ) (b : Bytes s) (Q : Refusal → Type 0)
       (λ f p.
       table-runs (startStep s) (StartsSofar s) Q (headStarts s)
       (λ v x l q. record { on = start-on s b v x (omega (arith, scheduled-le (headLength s) (headNodes s))) q; off = start-off v x l q })
-      (scheduledOf (edgesRead s .form .length) (edgesRead s .form .nodes)) 0 (edgesRead s) (omega (arith, ap₂ scheduledOf (p .last) (p .nodes))) f
+      (scheduledOf (edgesRead s .form .length) (edgesRead s .form .nodes)) 0 (edgesRead s) (omega (arith, ap₂ scheduledOf (p .counts .last) (p .counts .nodes))) f
       (moved s (headClasses s) (headNodes s) (headEdges s) 0 _ (startsFrom s + 3 * 0) (edgesRead s) (omega arith) p))
 
 -- what a fine end tells

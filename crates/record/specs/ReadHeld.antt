@@ -30,11 +30,20 @@ whole-held s x p =
     (λ v l. let g = p .start .good v l in omega (arith, p .head .last))
     (p .start .rest) in
     record {
-      sized = p .sized;
-      classes = omega (arith, p .classes, p .head .classes);
-      nodes = omega (arith, p .nodes, p .head .nodes);
-      edges = omega (arith, p .edges, p .head .edges);
-      length = omega (arith, p .last, p .head .last);
+      sized =
+          record {
+            class = p .class .sized;
+            node = p .node .sized;
+            from = p .edge .sized .0;
+            to = p .edge .sized .1;
+            delays = p .edge .sized .2;
+            start = p .start .sized .0;
+            retiming = p .start .sized .1;
+          };
+      classes = omega (arith, p .counts .classes, p .head .classes);
+      nodes = omega (arith, p .counts .nodes, p .head .nodes);
+      edges = omega (arith, p .counts .edges, p .head .edges);
+      length = omega (arith, p .counts .last, p .head .last);
       class = λ i l.
           everywhere HeldClass noClass (headClasses s) (classOf (x .form)) (record { latency = omega arith; units = omega arith; pipelined = omega arith })
           (λ j m. let g = p .class .good j m in record { latency = omega arith; units = omega arith; pipelined = omega arith })

@@ -48,10 +48,10 @@ module _ (f : Form) (h : Held f) (rest : List ℕ) (tail : Bytes rest) where
       elim (ℕ-discrete last 0) [
         | yes z ↦ normal-none last nodes (x .form .retiming) z
         | no ne ↦
-            let s : GoodSchedule f = w .schedule (λ z. ne (p .last ∙ k .last ∙ z)) in
+            let s : GoodSchedule f = w .schedule (λ z. ne (p .counts .last ∙ k .last ∙ z)) in
             let v : ℕ = s .least .0 in
-            let l : v < nodes = omega (arith, s .least .1, p .nodes, k .nodes) in
-            let t : v < headStarts (followed f rest) = omega (arith, starts-same f h rest k, scheduled-all (f .length) (f .nodes) (λ z. ne (p .last ∙ k .last ∙ z)), s .least .1) in
+            let l : v < nodes = omega (arith, s .least .1, p .counts .nodes, k .nodes) in
+            let t : v < headStarts (followed f rest) = omega (arith, starts-same f h rest k, scheduled-all (f .length) (f .nodes) (λ z. ne (p .counts .last ∙ k .last ∙ z)), s .least .1) in
             normal-some last nodes (x .form .retiming) ne
             ∙ zero-some nodes (x .form .retiming) v l (ap (λ (q : Slot). q .retiming) (slot-agrees f h rest _ _ _ _ _ x p v t t) ∙ s .least .2)
       ]
