@@ -56,7 +56,8 @@ returns c =
 
 returns-2 : tie.Need-returns-2
 returns-2 c =
-    let test = c .before .before .before .before in
+    let edges = c .before .before .before in
+    let test = edges .before in
     let first = test .before .before in
     let left = first .before in
     let end = left .before in

@@ -45,7 +45,8 @@ returns c =
 
 returns-2 : tie.Need-returns-2
 returns-2 c =
-    let test = c .before .before .before .before .before in
+    let edges = c .before .before .before in
+    let test = edges .before .before in
     let end = test .before .before in
     let x = end .before .before in
     let n = x .before in
