@@ -9,9 +9,9 @@ import glob
 import re
 import sys
 
-# A value of a type is held whose name is not said (a reader's Record with its Form and Refusal): the check asks for
+# A value of a type is held whose name is not said (a cursor with its Refusal, a Record with its Form): the check asks for
 # the crate that declares the type.
-HELD = {"rsk_c": {"form"}, "rsk": {"answer", "form"}}
+HELD = {"rows": {"answer"}, "rsk_c": {"form"}, "rsk": {"answer", "form"}}
 
 
 def listed():

@@ -21,7 +21,7 @@ use Rattle.reader.specs.declared.NodeTable.{NodeTable}
 use Rattle.reader.specs.declared.EdgeTable.{EdgeTable}
 use Rattle.reader.specs.declared.StartTable.{StartTable}
 use Rattle.reader.specs.declared.Reading.{Reading}
-use Rattle.reader.specs.Rows.{classAt, nodeAt, edgeAt, startAt}
+use Rattle.rows.specs.Rows.{classAt, nodeAt, edgeAt, startAt}
 
 -- the mark "RSK" as one number of three bytes, version 1, then C, N, E and L
 module _ (s : List ℕ) where
@@ -88,13 +88,9 @@ pub record Headed (s : List ℕ) (h : Counts) : Type 0 where
   pub short : h .length ≤ 512
   pub near : h .next .at ≤ 11
 
--- a table read, with rows of a width at most: the counts stay, and the cursor moves no further than the rows reach
+-- a table read, with rows of a width at most: the cursor moves no further than the rows reach
 pub record Stage (step : ℕ → Reading → Reading) (n : ℕ) (x : Reading) (width : ℕ) (r : Reading) : Type 0 where
   pub is : r ≡ table step n 0 x
-  pub classes : r .form .classes ≡ x .form .classes
-  pub nodes : r .form .nodes ≡ x .form .nodes
-  pub edges : r .form .edges ≡ x .form .edges
-  pub length : r .form .length ≡ x .form .length
   pub near : r .next .at ≤ x .next .at + width * n
 
 -- the form with a whole table given

@@ -7,40 +7,16 @@ ghost use Rattle.lists.specs.Pick.{pick};
 ghost use Rattle.answer.specs.Refused.{fine};
 ghost use Rattle.answer.specs.declared.Refusal.the-variants.{None, Retiming, Tail};
 ghost use Rattle.form.specs.Places.{noClass, noStep, emptyForm, withCounts, scheduledOf};
-ghost use Rattle.reader.specs.Rows.{ClassRead, NodeRead, EdgeRead, StartRead, operationOf};
 ghost use Rattle.reader.specs.Tables.{Headed, ClassesRead, NodesRead, EdgesRead, StartsRead, withStarts};
-ghost use Rattle.reader.specs.Reading.{someZero, normalized, endOf, readForm};
+ghost use Rattle.reader.specs.Reading.{someZero, normalized, endOf, prefixOf, readForm};
 use answer::Refusal;
 use field::Cursor;
 use field::Kind;
 use form::BodyStep;
 use form::Class;
-use form::Edge;
 use form::Form;
 use form::Node;
 use form::Operation;
-
-// A row of each table, and the cursor past it.
-pub struct ClassRow {
-    pub class: Class,
-    pub next: Cursor,
-}
-
-pub struct NodeRow {
-    pub node: Node,
-    pub next: Cursor,
-}
-
-pub struct EdgeRow {
-    pub edge: Edge,
-    pub next: Cursor,
-}
-
-pub struct StartRow {
-    pub start: BodyStep,
-    pub retiming: u8,
-    pub next: Cursor,
-}
 
 // The form as far as it is read, and the cursor: what the definitions of reading speak of.
 pub struct Reading {
@@ -81,125 +57,17 @@ pub struct StartTable {
     pub next: Cursor,
 }
 
+// What reading the record at the front answers: its form and where it ends, or the refusal, the empty form and 0.
+pub struct Prefix {
+    pub refusal: Refusal,
+    pub size: usize,
+    pub form: Form,
+}
+
 // What reading a record answers: its form, or the refusal and the empty form.
 pub struct Record {
     pub refusal: Refusal,
     pub form: Form,
-}
-
-// Latency, units and whether it is pipelined.
-fn class_row(s: &[u8], cursor: Cursor) -> ClassRow
-    requires { ⌜ cursor .at ≤ 50000 ⌝ }
-    ensures { λ r. ⌜ ClassRead (now (s .entry)) cursor r ⌝ }
-{
-    let latency = field::take(s, cursor, 1, 1, 8, Kind::Machine);
-    let units_at = latency.next;
-    let units = field::take(s, units_at, 1, 1, 8, Kind::Machine);
-    let pipelined_at = units.next;
-    let pipelined = field::take(s, pipelined_at, 1, 0, 1, Kind::Machine);
-    let next = pipelined.next;
-    ClassRow {
-        class: Class {
-            latency: latency.value as u8,
-            units: units.value as u8,
-            pipelined: pipelined.value as u8,
-        },
-        next,
-    }
-}
-
-// The operation of a code, with its constant.
-fn operation_of(code: u32, constant: u32) -> Operation
-    ensures { λ o. ⌜ o ≡ operationOf code constant ⌝ }
-{
-    match code {
-        0 => Operation::Add(constant),
-        1 => Operation::Sub(constant),
-        _ => Operation::Mul(constant),
-    }
-}
-
-// The largest number below a count, 0 if it counts nothing.
-fn last_of(count: u8) -> u32
-    ensures { λ r. ⌜ (r ≡ count - 1) × (r < 256) ⌝ }
-{
-    if count == 0 {
-        return 0;
-    }
-    (count - 1) as u32
-}
-
-// Class, operation and constant; the class is below the number of classes.
-fn node_row(s: &[u8], cursor: Cursor, classes: u8) -> NodeRow
-    requires { ⌜ cursor .at ≤ 50000 ⌝ }
-    ensures { λ r. ⌜ NodeRead (now (s .entry)) cursor classes r ⌝ }
-{
-    let last = last_of(classes);
-    let class = field::take(s, cursor, 1, 0, last, Kind::Node);
-    let code_at = class.next;
-    let code = field::take(s, code_at, 1, 0, 2, Kind::Node);
-    let constant_at = code.next;
-    let constant = field::take(s, constant_at, 4, 0, 4294967295, Kind::Node);
-    let next = constant.next;
-    let operation = operation_of(code.value, constant.value);
-    NodeRow {
-        node: Node {
-            class: class.value as u8,
-            operation,
-        },
-        next,
-    }
-}
-
-// Tail, head and delays; both ends are below the number of nodes.
-fn edge_row(s: &[u8], cursor: Cursor, nodes: u8) -> EdgeRow
-    requires { ⌜ cursor .at ≤ 50000 ⌝ }
-    ensures { λ r. ⌜ EdgeRead (now (s .entry)) cursor nodes r ⌝ }
-{
-    let last = last_of(nodes);
-    let from = field::take(s, cursor, 1, 0, last, Kind::Edge);
-    let to_at = from.next;
-    let to = field::take(s, to_at, 1, 0, last, Kind::Edge);
-    let delays_at = to.next;
-    let delays = field::take(s, delays_at, 1, 0, 15, Kind::Edge);
-    let next = delays.next;
-    EdgeRow {
-        edge: Edge {
-            from: from.value as u8,
-            to: to.value as u8,
-            delays: delays.value as u8,
-        },
-        next,
-    }
-}
-
-// The last step at which an operation can start, 0 if the body is too short for it.
-fn last_start(length: u16, latency: u8) -> u32
-    ensures { λ r. ⌜ (r ≡ length + 1 - latency) × (r < 65537) ⌝ }
-{
-    let end = length as u32 + 1;
-    let steps = latency as u32;
-    if end < steps {
-        return 0;
-    }
-    end - steps
-}
-
-// Start and retiming; an operation of this latency starts and ends in the body.
-fn start_row(s: &[u8], cursor: Cursor, length: u16, latency: u8) -> StartRow
-    requires { ⌜ (cursor .at ≤ 50000) × (length ≤ 512) ⌝ }
-    ensures { λ r. ⌜ StartRead (now (s .entry)) cursor length latency r ⌝ }
-{
-    let last = last_start(length, latency);
-    let start = field::take(s, cursor, 2, 1, last, Kind::Start);
-    let retiming_at = start.next;
-    let retiming = field::take(s, retiming_at, 1, 0, 63, Kind::Retiming);
-    let next = retiming.next;
-    StartRow {
-        start: BodyStep(start.value as u16),
-        retiming: retiming.value as u8,
-        next,
-    }
 }
 
 // A class's latency, 0 past the table.
@@ -260,7 +128,7 @@ fn classes(s: &[u8], at: Cursor, count: u8) -> ClassTable
         if !refusal.is_fine() {
             return ClassTable { class, next };
         }
-        let row = class_row(s, next);
+        let row = rows::class_row(s, next);
         let read = row.class;
         class[i] = read;
         next = row.next;
@@ -286,7 +154,7 @@ fn nodes(s: &[u8], at: Cursor, classes: u8, count: u8) -> NodeTable
         if !refusal.is_fine() {
             return NodeTable { node, next };
         }
-        let row = node_row(s, next, classes);
+        let row = rows::node_row(s, next, classes);
         let read = row.node;
         node[i] = read;
         next = row.next;
@@ -316,7 +184,7 @@ fn edges(s: &[u8], at: Cursor, nodes: u8, count: u16) -> EdgeTable
                 next,
             };
         }
-        let row = edge_row(s, next, nodes);
+        let row = rows::edge_row(s, next, nodes);
         let edge = row.edge;
         from[i] = edge.from;
         to[i] = edge.to;
@@ -359,7 +227,7 @@ fn starts(
         }
         let place = node[i];
         let latency = latency_of(class, place.class);
-        let row = start_row(s, next, length, latency);
+        let row = rows::start_row(s, next, length, latency);
         let read = row.start;
         start[i] = read;
         retiming[i] = row.retiming;
@@ -422,27 +290,26 @@ fn none_is_zero(counts: Counts, retiming: [u8; 64]) -> Refusal
     Refusal::Retiming(before + 3 * counts.edges as u32)
 }
 
-// No byte is left.
-fn tail(s: &[u8], at: usize) -> Refusal
-    requires { ⌜ at ≤ 60000 ⌝ }
-    ensures { λ r. ⌜ r ≡ pick (ltb at (length (now (s .entry)))) (Tail at) None ⌝ }
+// After the last field: a schedule has a retiming 0.
+fn end_of(counts: Counts, retiming: [u8; 64], next: Cursor) -> Refusal
+    requires { ⌜ counts .nodes ≤ 64 ⌝ }
+    ensures { λ r. ⌜ r ≡ endOf (record { form = withStarts (withCounts emptyForm (counts .classes) (counts .nodes) (counts .edges) (counts .length)) (replicate 64 noStep) retiming; next = next }) ⌝ }
 {
+    let refusal = next.refusal;
+    let unnormalized = none_is_zero(counts, retiming);
+    first_of(refusal, unnormalized)
+}
+
+// No byte is left.
+fn tail(s: &[u8], next: Cursor) -> Refusal
+    requires { ⌜ next .at ≤ 60000 ⌝ }
+    ensures { λ r. ⌜ r ≡ pick (ltb (next .at) (length (now (s .entry)))) (Tail (next .at)) None ⌝ }
+{
+    let at = next.at;
     if at < s.len() {
         return Refusal::Tail(at as u32);
     }
     Refusal::None
-}
-
-// After the last field: a schedule has a retiming 0, and no byte is left.
-fn end_of(s: &[u8], counts: Counts, retiming: [u8; 64], next: Cursor) -> Refusal
-    requires { ⌜ (counts .nodes ≤ 64) × (next .at ≤ 60000) ⌝ }
-    ensures { λ r. ⌜ r ≡ endOf (now (s .entry)) (record { form = withStarts (withCounts emptyForm (counts .classes) (counts .nodes) (counts .edges) (counts .length)) (replicate 64 noStep) retiming; next = next }) ⌝ }
-{
-    let refusal = next.refusal;
-    let unnormalized = none_is_zero(counts, retiming);
-    let left = tail(s, next.at);
-    let end = first_of(unnormalized, left);
-    first_of(refusal, end)
 }
 
 // How many nodes have a start and a retiming.
@@ -455,6 +322,58 @@ fn scheduled_nodes(length: u16, nodes: u8) -> usize
     nodes as usize
 }
 
+// Nothing is at the front: the refusal, with the empty form.
+fn unread(refusal: Refusal) -> Prefix
+    ensures { λ r. ⌜ (r .refusal ≡ refusal) × (r .size ≡ 0) × (r .form ≡ emptyForm) ⌝ }
+{
+    Prefix {
+        refusal,
+        size: 0,
+        form: Form::empty(),
+    }
+}
+
+// The record at the front of the lent bytes, or the first refusal; what is left past it is not looked at.
+pub fn read_prefix(s: &[u8]) -> Prefix
+    ensures { λ r. ⌜ r ≡ prefixOf (now (s .entry)) ⌝ }
+{
+    let counts = header(s);
+    let board = classes(s, counts.next, counts.classes);
+    let class = board.class;
+    let operations = nodes(s, board.next, counts.classes, counts.nodes);
+    let node = operations.node;
+    let graph = edges(s, operations.next, counts.nodes, counts.edges);
+    let scheduled = scheduled_nodes(counts.length, counts.nodes);
+    let schedule = starts(s, graph.next, counts.length, class, node, scheduled);
+    let retiming = schedule.retiming;
+    let refusal = end_of(counts, retiming, schedule.next);
+    if !refusal.is_fine() {
+        return unread(refusal);
+    }
+    let from = graph.from;
+    let to = graph.to;
+    let delays = graph.delays;
+    let start = schedule.start;
+    let end = schedule.next;
+    Prefix {
+        refusal,
+        size: end.at,
+        form: Form {
+            classes: counts.classes,
+            nodes: counts.nodes,
+            edges: counts.edges,
+            length: counts.length,
+            class,
+            node,
+            from,
+            to,
+            delays,
+            start,
+            retiming,
+        },
+    }
+}
+
 // A refused record, with the empty form.
 fn refused(refusal: Refusal) -> Record
     ensures { λ r. ⌜ (r .refusal ≡ refusal) × (r .form ≡ emptyForm) ⌝ }
@@ -465,7 +384,7 @@ fn refused(refusal: Refusal) -> Record
     }
 }
 
-// The record in the lent bytes, or the first refusal.
+// The record in the lent bytes, or the first refusal. Its tables go straight into the answer: a form out of `read_prefix` would be copied.
 pub fn read(s: &[u8]) -> Record
     ensures { λ r. ⌜ r ≡ readForm (now (s .entry)) ⌝ }
 {
@@ -478,7 +397,9 @@ pub fn read(s: &[u8]) -> Record
     let scheduled = scheduled_nodes(counts.length, counts.nodes);
     let schedule = starts(s, graph.next, counts.length, class, node, scheduled);
     let retiming = schedule.retiming;
-    let refusal = end_of(s, counts, retiming, schedule.next);
+    let ended = end_of(counts, retiming, schedule.next);
+    let left = tail(s, schedule.next);
+    let refusal = first_of(ended, left);
     if !refusal.is_fine() {
         return refused(refusal);
     }

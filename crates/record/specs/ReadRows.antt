@@ -18,7 +18,7 @@ use Rattle.field.specs.declared.Kind.the-variants.{Machine, Node as node, Edge 
 use Rattle.field.specs.declared.Cursor.{Cursor}
 use Rattle.field.specs.Number.{Bytes, numberAt, bytes-number}
 use Rattle.field.specs.Taking.{onward}
-use Rattle.reader.specs.Rows.{latencyIn, unitsIn, pipelinedIn, classAt, operationOf, classIn, codeIn, constantIn, nodeAt, fromIn, toIn, delaysIn, edgeAt, startIn, retimingIn, startAt}
+use Rattle.rows.specs.Rows.{latencyIn, unitsIn, pipelinedIn, classAt, operationOf, classIn, codeIn, constantIn, nodeAt, fromIn, toIn, delaysIn, edgeAt, startIn, retimingIn, startAt}
 use Rattle.writer.specs.Layout.{codeOf, constantOf, classBytes, nodeBytes, edgeBytes, startBytes}
 use Rattle.record.specs.Fields.{Got, begun, got, slice-cons}
 

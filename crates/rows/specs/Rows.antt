@@ -11,10 +11,10 @@ use Rattle.field.specs.declared.Cursor.{Cursor}
 use Rattle.field.specs.declared.Taken.{Taken}
 use Rattle.field.specs.declared.Kind.the-variants.{Machine, Node, Edge, Start, Retiming}
 use Rattle.field.specs.Taking.{taken}
-use Rattle.reader.specs.declared.ClassRow.{ClassRow}
-use Rattle.reader.specs.declared.NodeRow.{NodeRow}
-use Rattle.reader.specs.declared.EdgeRow.{EdgeRow}
-use Rattle.reader.specs.declared.StartRow.{StartRow}
+use Rattle.rows.specs.declared.ClassRow.{ClassRow}
+use Rattle.rows.specs.declared.NodeRow.{NodeRow}
+use Rattle.rows.specs.declared.EdgeRow.{EdgeRow}
+use Rattle.rows.specs.declared.StartRow.{StartRow}
 
 -- a class: latency 1 to 8, units 1 to 8, plain 0 or pipelined 1
 module _ (s : List ℕ) (c : Cursor) where

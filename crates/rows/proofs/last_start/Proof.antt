@@ -1,9 +1,9 @@
--- `reader::last_start` meets its contract.
+-- `rows::last_start` meets its contract.
 -- Assumes nothing.
 use native.Mathlib.Omega.{arith}
 use borrow.Author.Needs.{needs}
-use Rattle.reader.proofs.last_start.Statement.{statement}
-use Rattle.reader.proofs.last_start.Tie as tie
+use Rattle.rows.proofs.last_start.Statement.{statement}
+use Rattle.rows.proofs.last_start.Tie as tie
 
 returns : tie.Need-returns
 returns c = (omega arith, omega arith)

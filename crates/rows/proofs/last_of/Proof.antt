@@ -1,9 +1,9 @@
--- `reader::last_of` meets its contract.
+-- `rows::last_of` meets its contract.
 -- Assumes nothing.
 use native.Mathlib.Omega.{arith}
 use borrow.Author.Needs.{needs}
-use Rattle.reader.proofs.last_of.Statement.{statement}
-use Rattle.reader.proofs.last_of.Tie as tie
+use Rattle.rows.proofs.last_of.Statement.{statement}
+use Rattle.rows.proofs.last_of.Tie as tie
 
 returns-2 : tie.Need-returns-2
 returns-2 c = (omega arith, omega arith)
