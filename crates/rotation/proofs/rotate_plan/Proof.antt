@@ -1,60 +1,75 @@
--- `rotation::rotate_plan` meets its contract: what the judge refuses, Size, then Long, else the form rotated.
--- Assumes nothing.
-use mathlib.Core.Path.{refl, sym, _∙_}
-use native.Mathlib.Omega.{arith}
 use borrow.Author.Needs.{needs}
-use borrow.Author.Tests.{not-true, not-false}
-use Rattle.tables.specs.Lent.{lent-form}
-use Rattle.rotation.proofs.Rotates.{judge-accepted, accepted-alone, rotate-unjudged, rotate-legal, rotate-size, rotate-too-long, rotate-planned}
 use Rattle.rotation.proofs.rotate_plan.Statement.{statement}
 use Rattle.rotation.proofs.rotate_plan.Tie as tie
+use Rattle.rotation.proofs.rotate_plan.Reads as reads
+use Rattle.rotation.proofs.rotate_plan.Lts as lts
+use Rattle.answer.proofs.Refusal.is_fine.Reads as is-fine-reads
+use Rattle.judge.proofs.judge_tables.Reads as judge-tables-reads
+use Rattle.rotation.proofs.turns_by.Reads as turns-by-reads
+use Rattle.rotation.proofs.uncounted.Reads as uncounted-reads
+use Rattle.turning.proofs.rotate_times.Reads as rotate-times-reads
 
+-- src/lib.rt:168:9
 judge-tables-requires : tie.Need-judge-tables-requires
-judge-tables-requires c κs = (c .before .before .before .before .before .args .t1, lent-form (c .before .before .before .before .before .args .t1) _ (c .before .before .before .before .before .pre) (c .before .before .before .before .times-of .ensures))
+judge-tables-requires c κs = search needs
 
+-- src/lib.rt:171:9
+is-fine-requires : tie.Need-is-fine-requires
+is-fine-requires c κs = search needs
+
+-- src/lib.rt:172:9
+uncounted-requires : tie.Need-uncounted-requires
+uncounted-requires c κs = search needs
+
+-- src/lib.rt:172:9
 returns : tie.Need-returns
-returns c = rotate-unjudged _ _ (c .before .before .before .judge-tables .ensures _ (lent-form (c .before .before .before .before .before .before .before .before .before .args .t1) _ (c .before .before .before .before .before .before .before .before .before .pre) (c .before .before .before .before .before .before .before .before .times-of .ensures))) _ (sym (c .before .is-fine .ensures) ∙ not-true _ (c .if1 .taken))
+returns c = ?
 
+-- src/lib.rt:174:9
+turns-by-requires : tie.Need-turns-by-requires
+turns-by-requires c κs = search needs
+
+-- src/lib.rt:175:9
+uncounted-requires-2 : tie.Need-uncounted-requires-2
+uncounted-requires-2 c κs = search needs
+
+-- src/lib.rt:175:9
 returns-2 : tie.Need-returns-2
-returns-2 c =
-    let q = (c .before .before .before .before .before .judge-tables .ensures _ (lent-form (c .before .before .before .before .before .before .before .before .before .before .before .args .t1) _ (c .before .before .before .before .before .before .before .before .before .before .before .pre) (c .before .before .before .before .before .before .before .before .before .before .times-of .ensures))) in
-    let w = c .before .before .before .before .before .before .before .before .before .before .before .pre in
-    let fine = sym (c .before .before .before .is-fine .ensures) ∙ not-false _ (c .before .before .if1 .left) in
-    rotate-size _ w _ (judge-accepted _ _ q w fine) (sym (c .before .turns-by .ensures) ∙ not-true _ (c .if2 .taken)) _ refl _ (accepted-alone _ _ q fine)
+returns-2 c = ?
 
-rotate-form-requires : tie.Need-rotate-form-requires
-rotate-form-requires c κs =
-    let w = c .before .before .before .before .before .before .before .before .before .before .before .pre in
-    let accepted = judge-accepted _ _ (c .before .before .before .before .before .judge-tables .ensures _ (lent-form (c .before .before .before .before .before .before .before .before .before .before .before .args .t1) _ (c .before .before .before .before .before .before .before .before .before .before .before .pre) (c .before .before .before .before .before .before .before .before .before .before .times-of .ensures))) w (sym (c .before .before .before .is-fine .ensures) ∙ not-false _ (c .before .before .if1 .left)) in
-    let l = rotate-legal _ w _ accepted (sym (c .before .turns-by .ensures) ∙ not-false _ (c .if2 .left)) in
-    ((w, l .0), (l .1, l .2))
+-- src/lib.rt:177:9
+rotate-times-requires : tie.Need-rotate-times-requires
+rotate-times-requires c κs = ?
 
+-- src/lib.rt:179:9
+uncounted-requires-3 : tie.Need-uncounted-requires-3
+uncounted-requires-3 c κs = search needs
+
+-- src/lib.rt:179:9
 returns-3 : tie.Need-returns-3
-returns-3 c =
-    let q = (c .before .before .before .before .before .before .before .before .judge-tables .ensures _ (lent-form (c .before .before .before .before .before .before .before .before .before .before .before .before .before .before .args .t1) _ (c .before .before .before .before .before .before .before .before .before .before .before .before .before .before .pre) (c .before .before .before .before .before .before .before .before .before .before .before .before .before .times-of .ensures))) in
-    let w = c .before .before .before .before .before .before .before .before .before .before .before .before .before .before .pre in
-    let fine = sym (c .before .before .before .before .before .before .is-fine .ensures) ∙ not-false _ (c .before .before .before .before .before .if1 .left) in
-    rotate-too-long _ w _ (judge-accepted _ _ q w fine) (sym (c .before .before .before .before .turns-by .ensures) ∙ not-false _ (c .before .before .before .if2 .left)) _ (c .before .before .rotate-form .ensures) _ (accepted-alone _ _ q fine)
-    (omega (arith, c .if3 .taken))
+returns-3 c = ?
 
+-- src/lib.rt:181:5
+uncounted-requires-4 : tie.Need-uncounted-requires-4
+uncounted-requires-4 c κs = search needs
+
+-- src/lib.rt:157:1
 returns-4 : tie.Need-returns-4
-returns-4 c =
-    let q = (c .before .before .before .before .before .before .before .before .judge-tables .ensures _ (lent-form (c .before .before .before .before .before .before .before .before .before .before .before .before .before .before .args .t1) _ (c .before .before .before .before .before .before .before .before .before .before .before .before .before .before .pre) (c .before .before .before .before .before .before .before .before .before .before .before .before .before .times-of .ensures))) in
-    let w = c .before .before .before .before .before .before .before .before .before .before .before .before .before .before .pre in
-    let fine = sym (c .before .before .before .before .before .before .is-fine .ensures) ∙ not-false _ (c .before .before .before .before .before .if1 .left) in
-    rotate-planned _ w _ (judge-accepted _ _ q w fine) (sym (c .before .before .before .before .turns-by .ensures) ∙ not-false _ (c .before .before .before .if2 .left)) _ (c .before .before .rotate-form .ensures) _ (accepted-alone _ _ q fine)
-    (omega (arith, c .if3 .left))
+returns-4 c = ?
 
 pub rotate-plan-spec : {M : Type 1} → statement M
 rotate-plan-spec =
     tie.close
     (tie.spec
-    (λ c κs. search needs)
     judge-tables-requires
-    (λ c κs. search needs)
+    is-fine-requires
+    uncounted-requires
     returns
-    (λ c κs. search needs)
+    turns-by-requires
+    uncounted-requires-2
     returns-2
-    rotate-form-requires
+    rotate-times-requires
+    uncounted-requires-3
     returns-3
+    uncounted-requires-4
     returns-4)
