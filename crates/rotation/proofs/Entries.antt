@@ -73,16 +73,17 @@ module _ (f : Form) (y : Plan) (out : List ℕ) where
     cycle = refl;
   }
 
-  pub plan-written : fine (y .refusal) ≡ true → (z : Written) (last : List ℕ) → z ≡ written next (length out) → last ≡ bufferAfter next out → (b : Bool) → b ≡ fine (z .refusal) → (n : ℕ) → n ≡ pick b (y .rotations) 0
+  pub plan-written : fine (y .refusal) ≡ true → (g : Form) → g ≡ next → (z : Written) (last : List ℕ) → z ≡ written g (length out) → last ≡ bufferAfter g out → (b : Bool) → b ≡ fine (z .refusal) → (n : ℕ) → n ≡ pick b (y .rotations) 0
       → PlanWritten f y out last (record { refusal = z .refusal; size = z .size; rotations = n; cycle = y .cycle })
   unfolding written bufferAfter
-  plan-written t z last is-z is-last b is-b n is-n =
-      let refusal : z .refusal ≡ refusalOf next (length out) = ap (λ (w : Written). w .refusal) is-z in
+  plan-written t g is-g z last is-z is-last b is-b n is-n =
+      let whole : z ≡ written next (length out) = is-z ∙ ap (λ (h : Form). written h (length out)) is-g in
+      let refusal : z .refusal ≡ refusalOf next (length out) = ap (λ (w : Written). w .refusal) whole in
       record {
         refusal = refusal ∙ sym (pick-true (fine (y .refusal)) _ _ t);
-        size = ap (λ (w : Written). w .size) is-z ∙ ap (λ (q : Refusal). pick (fine q) (length (layout next)) 0) (sym refusal);
+        size = ap (λ (w : Written). w .size) whole ∙ ap (λ (q : Refusal). pick (fine q) (length (layout next)) 0) (sym refusal);
         rotations = is-n ∙ ap (λ (d : Bool). pick d (y .rotations) 0) is-b;
-        buffer = is-last ∙ ap (λ (q : Refusal). pick (fine q) (sets out 0 (layout next)) out) (sym refusal);
+        buffer = is-last ∙ ap (λ (h : Form). bufferAfter h out) is-g ∙ ap (λ (q : Refusal). pick (fine q) (sets out 0 (layout next)) out) (sym refusal);
         cycle = refl;
       }
 

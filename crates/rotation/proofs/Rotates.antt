@@ -3,6 +3,7 @@
 use mathlib.Core.Path.{_≡_, refl, sym, ap, _∙_}
 use mathlib.Core.Bool.{Bool, true, false, _&&_}
 use mathlib.Core.Logic.{_⊎_, _≢_}
+use mathlib.Core.List.{List}
 use Prim.Native.Nat.{ℕ, _≤_, _<_}
 use native.Mathlib.Omega.{arith}
 use lib.Dec.{ltb}
@@ -28,6 +29,7 @@ use Rattle.judge.specs.Judgement.{Judgement}
 use Rattle.judge.specs.declared.Judged as verdict
 use Rattle.turning.specs.Pairs.{withPair, withTimes}
 use Rattle.turning.specs.Rotation.{rotatedLength, rotated, tooLong, turnedForm, rotatedOr}
+use Rattle.turning.specs.Lending.{Tabled, Turnable}
 use Rattle.turning.specs.RotatedLaws.{rotated-same, rotated-written}
 use Rattle.rotation.specs.Scheduling.{Planned, unturned, turns, rotateAsked, rotatedBy}
 
@@ -48,6 +50,11 @@ turns-some z l n = ap (λ (b : Bool). b && ltb z l) (sym (lt-ltb 0 z (omega (ari
 or-length : (f : Form) (z : ℕ) → rotatedOr f z .length ≡ rotatedLength f z
 unfolding rotatedOr turnedForm rotated withPair
 or-length f z = pick-ind (λ (x : Form). x .length ≡ rotatedLength f z) (tooLong f z) (turnedForm f z) (rotated f z) (λ _. refl) (λ _. refl)
+
+-- the steps are those of the form's body
+pub turns-here : (f : Form) (edges : ℕ) (from to delays : List ℕ) (t : Timetable) → Tabled f edges from to delays t → (z : ℕ) (b : Bool) → b ≡ turns z (t .length) → turns z (f .length) ≡ b
+unfolding timesOf
+turns-here f edges from to delays t k z b is = ap (λ (u : Timetable). turns z (u .length)) (sym (k .is)) ∙ sym is
 
 -- what the judge accepts, and what it refuses
 module _ (f : Form) (j : verdict.Judged) (q : Judgement f j) where
@@ -74,8 +81,11 @@ module _ (f : Form) (w : WellFormed f) (z : ℕ) (accepted : judgeOf f ≡ None)
   judge-fine = ap fine accepted
 
   -- what the judge accepts is legal
-  pub rotate-legal : turns z (f .length) ≡ true → Legal (loopOf f) (pairOf f) × (1 ≤ z) × (z < f .length)
+  rotate-legal : turns z (f .length) ≡ true → Legal (loopOf f) (pairOf f) × (1 ≤ z) × (z < f .length)
   rotate-legal t = let b = turns-told z (f .length) t in (judge-accepts f w accepted .1, b .0, b .1)
+
+  pub rotate-turnable : turns z (f .length) ≡ true → (edges : ℕ) (from to delays : List ℕ) (t : Timetable) → Tabled f edges from to delays t → Turnable f edges from to delays t z
+  rotate-turnable b edges from to delays t k = let l = rotate-legal b in record { tabled = k; legal = l .0; some = l .1; below = l .2 }
 
   pub rotate-size : turns z (f .length) ≡ false → (n : ℕ) → n ≡ z → (c : Cycle) → c ≡ noCycle
       → (u : Timetable) → Planned (rotateAsked z) (rotatedBy z) unturned f (record { refusal = Size n; rotations = 0; cycle = c; times = u })

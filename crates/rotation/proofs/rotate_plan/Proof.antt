@@ -1,75 +1,89 @@
+-- `rotation::rotate_plan` meets its contract: what the judge refuses, Size, then Long, else the form rotated.
+-- Assumes nothing.
+use mathlib.Core.Path.{refl, sym, subst, _∙_}
+use native.Mathlib.Omega.{arith}
 use borrow.Author.Needs.{needs}
+use borrow.Author.Tests.{not-true, not-false}
+use Rattle.rotation.specs.Scheduling.{Planned, rotateAsked, rotatedBy, unturned}
+use Rattle.rotation.proofs.Rotates.{turns-here, judge-accepted, accepted-alone, rotate-unjudged, rotate-turnable, rotate-size, rotate-too-long, rotate-planned}
 use Rattle.rotation.proofs.rotate_plan.Statement.{statement}
 use Rattle.rotation.proofs.rotate_plan.Tie as tie
-use Rattle.rotation.proofs.rotate_plan.Reads as reads
-use Rattle.rotation.proofs.rotate_plan.Lts as lts
-use Rattle.answer.proofs.Refusal.is_fine.Reads as is-fine-reads
-use Rattle.judge.proofs.judge_tables.Reads as judge-tables-reads
-use Rattle.rotation.proofs.turns_by.Reads as turns-by-reads
-use Rattle.rotation.proofs.uncounted.Reads as uncounted-reads
-use Rattle.turning.proofs.rotate_times.Reads as rotate-times-reads
 
--- src/lib.rt:168:9
 judge-tables-requires : tie.Need-judge-tables-requires
-judge-tables-requires c κs = search needs
+judge-tables-requires c κs = (c .pre .0, c .pre .1 .lent)
 
--- src/lib.rt:171:9
-is-fine-requires : tie.Need-is-fine-requires
-is-fine-requires c κs = search needs
-
--- src/lib.rt:172:9
-uncounted-requires : tie.Need-uncounted-requires
-uncounted-requires c κs = search needs
-
--- src/lib.rt:172:9
 returns : tie.Need-returns
-returns c = ?
+returns c f k =
+    let i = c .before in
+    let j = i .before .before .before in
+    subst (Planned (rotateAsked (j .before .args .steps)) (rotatedBy (j .before .args .steps)) unturned f) (sym (c .uncounted .ensures))
+    (rotate-unjudged f _ (j .judge-tables .ensures f (k .lent)) _ (sym (i .before .is-fine .ensures) ∙ not-true _ (i .if1 .taken)) _)
 
--- src/lib.rt:174:9
-turns-by-requires : tie.Need-turns-by-requires
-turns-by-requires c κs = search needs
-
--- src/lib.rt:175:9
-uncounted-requires-2 : tie.Need-uncounted-requires-2
-uncounted-requires-2 c κs = search needs
-
--- src/lib.rt:175:9
 returns-2 : tie.Need-returns-2
-returns-2 c = ?
+returns-2 c f k =
+    let b = c .before .before in
+    let p = b .before in
+    let j = p .before .before .before in
+    let z = j .before .args .steps in
+    let q = j .judge-tables .ensures f (k .lent) in
+    let fine = sym (p .before .is-fine .ensures) ∙ not-false _ (p .if1 .left) in
+    subst (Planned (rotateAsked z) (rotatedBy z) unturned f) (sym (c .uncounted2 .ensures))
+    (rotate-size f (k .lent .good) z (judge-accepted f _ q (k .lent .good) fine) (turns-here f _ _ _ _ _ k z _ (b .turns-by .ensures) ∙ not-true _ (c .before .if2 .taken)) _ refl _ (accepted-alone f _ q fine) _)
 
--- src/lib.rt:177:9
 rotate-times-requires : tie.Need-rotate-times-requires
-rotate-times-requires c κs = ?
+rotate-times-requires c κs =
+    let b = c .before in
+    let p = b .before in
+    let j = p .before .before .before in
+    let f = j .before .pre .0 in
+    let k = j .before .pre .1 in
+    let z = j .before .args .steps in
+    let accepted = judge-accepted f _ (j .judge-tables .ensures f (k .lent)) (k .lent .good) (sym (p .before .is-fine .ensures) ∙ not-false _ (p .if1 .left)) in
+    (f, rotate-turnable f (k .lent .good) z accepted (turns-here f _ _ _ _ _ k z _ (b .turns-by .ensures) ∙ not-false _ (c .if2 .left)) _ _ _ _ _ k)
 
--- src/lib.rt:179:9
-uncounted-requires-3 : tie.Need-uncounted-requires-3
-uncounted-requires-3 c κs = search needs
-
--- src/lib.rt:179:9
 returns-3 : tie.Need-returns-3
-returns-3 c = ?
+returns-3 c f k =
+    let r = c .before .before .before in
+    let b = r .before .before in
+    let p = b .before in
+    let j = p .before .before .before in
+    let z = j .before .args .steps in
+    let w = k .lent .good in
+    let q = j .judge-tables .ensures f (k .lent) in
+    let fine = sym (p .before .is-fine .ensures) ∙ not-false _ (p .if1 .left) in
+    let turns = turns-here f _ _ _ _ _ k z _ (b .turns-by .ensures) ∙ not-false _ (r .before .if2 .left) in
+    let accepted = judge-accepted f _ q w fine in
+    subst (Planned (rotateAsked z) (rotatedBy z) unturned f) (sym (c .uncounted3 .ensures))
+    (rotate-too-long f w z accepted turns _ (r .rotate-times .ensures f (rotate-turnable f w z accepted turns _ _ _ _ _ k)) _ (accepted-alone f _ q fine) (omega (arith, c .before .if3 .taken)) _)
 
--- src/lib.rt:181:5
-uncounted-requires-4 : tie.Need-uncounted-requires-4
-uncounted-requires-4 c κs = search needs
-
--- src/lib.rt:157:1
 returns-4 : tie.Need-returns-4
-returns-4 c = ?
+returns-4 c f k =
+    let r = c .before .before .before in
+    let b = r .before .before in
+    let p = b .before in
+    let j = p .before .before .before in
+    let z = j .before .args .steps in
+    let w = k .lent .good in
+    let q = j .judge-tables .ensures f (k .lent) in
+    let fine = sym (p .before .is-fine .ensures) ∙ not-false _ (p .if1 .left) in
+    let turns = turns-here f _ _ _ _ _ k z _ (b .turns-by .ensures) ∙ not-false _ (r .before .if2 .left) in
+    let accepted = judge-accepted f _ q w fine in
+    subst (Planned (rotateAsked z) (rotatedBy z) unturned f) (sym (c .uncounted4 .ensures))
+    (rotate-planned f w z accepted turns _ (r .rotate-times .ensures f (rotate-turnable f w z accepted turns _ _ _ _ _ k)) _ (accepted-alone f _ q fine) (omega (arith, c .before .if3 .left)))
 
 pub rotate-plan-spec : {M : Type 1} → statement M
 rotate-plan-spec =
     tie.close
     (tie.spec
     judge-tables-requires
-    is-fine-requires
-    uncounted-requires
+    (λ c κs. search needs)
+    (λ c κs. search needs)
     returns
-    turns-by-requires
-    uncounted-requires-2
+    (λ c κs. search needs)
+    (λ c κs. search needs)
     returns-2
     rotate-times-requires
-    uncounted-requires-3
+    (λ c κs. search needs)
     returns-3
-    uncounted-requires-4
+    (λ c κs. search needs)
     returns-4)

@@ -1,53 +1,31 @@
+-- `rotation::steps_of` meets its contract: the numbers passed are steps.
+-- Assumes nothing.
+use mathlib.Core.Path.{_≡_, refl, _∙_}
+use Prim.Native.Nat.{_≤_, _-_}
+use native.Mathlib.Omega.{arith}
+use borrow.Author.Needs.{needs}
+use Rattle.rotation.proofs.Steps.{stepped, stepped-none, stepped-more, stepped-all}
 use Rattle.rotation.proofs.steps_of.Statement.{statement}
 use Rattle.rotation.proofs.steps_of.Tie as tie
-use Rattle.rotation.proofs.steps_of.Reads as reads
-use Rattle.rotation.proofs.steps_of.Lts as lts
 
 abbrev Inv-loop : tie.InvT-loop
-Inv-loop start steps₀ v₀ steps v = ?
+Inv-loop start steps₀ v₀ steps v = (v ≤ 64) × (steps ≡ stepped start v)
 
 abbrev μ-loop : tie.MeasureT-loop
-μ-loop start steps₀ v₀ steps v = ?
+μ-loop start steps₀ v₀ steps v = 64 - v
 
--- src/lib.rt:51:5
 loop-holds : tie.Need-loop-holds Inv-loop μ-loop
-loop-holds c = ?
+loop-holds c = (omega arith, stepped-none _ _ refl)
 
--- src/lib.rt:52:17
-cast-i : tie.Need-cast-i Inv-loop μ-loop
-cast-i c = ?
-
--- src/lib.rt:53:29
-mul-t8 : tie.Need-mul-t8 Inv-loop μ-loop
-mul-t8 c = ?
-
--- src/lib.rt:53:29
-array-read-t11 : tie.Need-array-read-t11 Inv-loop μ-loop
-array-read-t11 c = ?
-
--- src/lib.rt:53:9
-mul-steps : tie.Need-mul-steps Inv-loop μ-loop
-mul-steps c = ?
-
--- src/lib.rt:53:9
-array-set-from-steps : tie.Need-array-set-from-steps Inv-loop μ-loop
-array-set-from-steps c = ?
-
--- src/lib.rt:51:9
-add-v : tie.Need-add-v Inv-loop μ-loop
-add-v c = ?
-
--- src/lib.rt:51:5
-loop-less : tie.Need-loop-less Inv-loop μ-loop
-loop-less c = ?
-
--- src/lib.rt:51:5
 loop-again : tie.Need-loop-again Inv-loop μ-loop
-loop-again c = ?
+loop-again c =
+    let l = c .before in
+    (omega arith, stepped-more _ (l .loop .v) _ (omega arith) (l .loop .inv .1))
 
--- src/lib.rt:47:1
 returns : tie.Need-returns Inv-loop μ-loop
-returns c = ?
+returns c =
+    let l = c .before in
+    l .loop .inv .1 ∙ stepped-all _ (l .loop .v) (omega arith) (search needs)
 
 pub steps-of-spec : {M : Type 1} → statement M
 steps-of-spec =
@@ -56,12 +34,12 @@ steps-of-spec =
     Inv-loop
     μ-loop
     loop-holds
-    cast-i
-    mul-t8
-    array-read-t11
-    mul-steps
-    array-set-from-steps
-    add-v
-    loop-less
+    (λ c. search needs)
+    (λ c. search needs)
+    (λ c. search needs)
+    (λ c. search needs)
+    (λ c. search needs)
+    (λ c. search needs)
+    (λ c. search needs)
     loop-again
     returns)

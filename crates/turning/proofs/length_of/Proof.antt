@@ -41,12 +41,14 @@ loop-again : tie.Need-loop-again Inv-loop μ-loop
 loop-again c =
     let t = c .before .before .before in
     let l = t .before in
-    let v = l .loop .v in
-    (search needs, λ g takes.
-    ⊎-elim
-    (λ w. omega (arith, last-more g (l .before .args .start .now) v, l .loop .inv .1 g takes, takes v (omega (arith, t .loop-test .taken))))
-    (λ w. omega (arith, last-more g (l .before .args .start .now) v, l .loop .inv .1 g takes, takes v (omega (arith, t .loop-test .taken))))
-    (c .if1 .came))
+    let v = l .loop .v in (
+      search needs,
+      λ g takes.
+          ⊎-elim
+          (λ w. omega (arith, last-more g (l .before .args .start .now) v, l .loop .inv .1 g takes, takes v (omega (arith, t .loop-test .taken))))
+          (λ w. omega (arith, last-more g (l .before .args .start .now) v, l .loop .inv .1 g takes, takes v (omega (arith, t .loop-test .taken))))
+          (c .if1 .came),
+    )
 
 returns : tie.Need-returns Inv-loop μ-loop
 returns c =
