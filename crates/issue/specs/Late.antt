@@ -78,3 +78,9 @@ module _ (g : Loop) (p : Pair) (starts : List ℕ) (k : ℕ) (finish : List ℕ)
   unfolding late missing
   late-missing nodes edges tails delays i e told is l w =
       rw (is, told .all-nodes, told .is-tail e l, told .is-delay e l, eq-eqb _ _ (w .into (omega (arith, told .all-edges))))
+
+-- an edge of the table, or their number, that is the first late one for each node of each loop that the tables and the links tell
+pub record FirstLate (first nodes edges i t : ℕ) (tails delays next finish : List ℕ) (e : ℕ) : Type 0 where
+  pub is-first : (g : Loop) (p : Pair) (starts : List ℕ) (k v : ℕ) (o : Operation) → Tells g nodes edges tails delays → Follows g v o first next → iteration g p starts k t v ≡ i
+      → e ≡ lateEdge g p starts k finish t v
+  pub within : e ≤ edges

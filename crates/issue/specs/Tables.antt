@@ -1,16 +1,10 @@
--- What tables of numbers tell: the starts of nodes, and the run step from which each unit is free.
+-- What a table of numbers tells: the run step from which each unit of the board is free.
 -- Assumes nothing.
 use mathlib.Core.Bool.{Bool}
 use mathlib.Core.List.{List}
 use Prim.Native.Nat.{ℕ, _+_, _*_}
 use lib.Dec.{leb}
 use lib.ListN.{getD}
-use Rattle.form.specs.declared.BodyStep.{BodyStep}
-use Rattle.form.specs.Places.{noStep}
-
--- the start of node v in a table
-abbrev pub stepAt : List BodyStep → ℕ → ℕ
-stepAt starts v = getD starts v noStep .0
 
 -- unit x of class c stands at place 8 c + x of the table
 abbrev pub unitOf : ℕ → ℕ → ℕ
