@@ -7,7 +7,7 @@ use Rattle.rsk_c.proofs.rsk_floor.Tie as tie
 
 returns : tie.Need-returns
 returns c =
-    filled _ _ _ _ _ _ _ _ _ (c .before .before .before .before .before .before .floor .ensures)
+    filled _ _ _ _ _ _ _ _ (c .before .before .before .before .before .before .floor .ensures)
     (rw (c .before .numbers-of .ensures, c .before .before .before .before .part-number .ensures, c .before .before .before .part-class .ensures))
     (c .fill .ensures .0)
     (c .fill .ensures .1)

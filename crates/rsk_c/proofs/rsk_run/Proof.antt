@@ -10,7 +10,7 @@ use Rattle.rsk_c.proofs.rsk_run.Tie as tie
 
 returns : tie.Need-returns
 returns c =
-    filled _ _ _ _ _ _ _ _ _ (c .before .before .before .before .before .before .before .before .run .ensures) (c .before .before .numbers-of .ensures) (c .fill .ensures .0)
+    filled _ _ _ _ _ _ _ _ (c .before .before .before .before .before .before .before .before .run .ensures) (c .before .before .numbers-of .ensures) (c .fill .ensures .0)
     (c .fill .ensures .1 ∙ ap (λ (x : Cycle). answerList (c .before .before .before .before .before .before .before .before .run .result .refusal) (c .before .before .numbers-of .result) x) (c .before .none .ensures))
 
 pub rsk-run-spec : {M : Type 1} → statement M
