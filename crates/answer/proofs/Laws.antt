@@ -14,7 +14,7 @@ use Rattle.lists.specs.Stored.{sets-append, sets-front}
 use Rattle.answer.specs.declared.Cycle.{Cycle}
 use Rattle.answer.specs.declared.Refusal.{Refusal}
 use Rattle.answer.specs.declared.Details.{Details}
-use Rattle.answer.specs.Outcome.{cycleEdge, cycleList, outcomeList, toldOf, answerList}
+use Rattle.answer.specs.Outcome.{cycleEdge, cycleList, outcomeList, toldList}
 
 -- a list as long as the one that it is stored into
 pub sets-whole : (l vs : List ℕ) → length vs ≡ length l → sets l 0 vs ≡ vs
@@ -31,13 +31,13 @@ unfolding cycleList
 cycle-length c = length-map (span 0 64) (cycleEdge c) ∙ span-length 0 64
 
 -- an answer has 69 places
-pub answer-long : (r : Refusal) (numbers : Details) (c : Cycle) → length (answerList r numbers c) ≡ 69
-unfolding answerList outcomeList
-answer-long r numbers c = omega (arith, cycle-length c)
+pub answer-long : (r : Refusal) (told : Details) (c : Cycle) → length (toldList r told c) ≡ 69
+unfolding toldList outcomeList
+answer-long r told c = omega (arith, cycle-length c)
 
 -- the first five places, then the cycle's, are the whole answer
-pub answer-whole : (l first last : List ℕ) (r : Refusal) (numbers : Details) (c : Cycle) → length l ≡ 69
-    → first ≡ sets l 0 (outcomeList r (toldOf r numbers) (c .count)) → last ≡ sets first 5 (cycleList c) → last ≡ answerList r numbers c
-unfolding answerList outcomeList
-answer-whole l first last r numbers c h ef el =
-    rw (el, ef) (sym (sets-append (outcomeList r (toldOf r numbers) (c .count)) (cycleList c) l 0) ∙ sets-whole l (answerList r numbers c) (answer-long r numbers c ∙ sym h))
+pub answer-whole : (l first last : List ℕ) (r : Refusal) (told : Details) (c : Cycle) → length l ≡ 69
+    → first ≡ sets l 0 (outcomeList r told (c .count)) → last ≡ sets first 5 (cycleList c) → last ≡ toldList r told c
+unfolding toldList outcomeList
+answer-whole l first last r told c h ef el =
+    rw (el, ef) (sym (sets-append (outcomeList r told (c .count)) (cycleList c) l 0) ∙ sets-whole l (toldList r told c) (answer-long r told c ∙ sym h))

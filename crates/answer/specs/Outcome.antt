@@ -34,5 +34,10 @@ cycleList c = map (cycleEdge c) (span 0 64)
 unfoldable pub outcomeList : Refusal → Details → ℕ → List ℕ
 outcomeList r told count = numberOf r ∷ told .first ∷ told .second ∷ told .third ∷ count ∷ []
 
-unfoldable pub answerList : Refusal → Details → Cycle → List ℕ
-answerList r numbers c = outcomeList r (toldOf r numbers) (c .count) ++ cycleList c
+-- all places, whatever is told beside the refusal's number
+unfoldable pub toldList : Refusal → Details → Cycle → List ℕ
+toldList r told c = outcomeList r told (c .count) ++ cycleList c
+
+-- of an answer that tells its numbers only where nothing is refused
+abbrev pub answerList : Refusal → Details → Cycle → List ℕ
+answerList r numbers = toldList r (toldOf r numbers)

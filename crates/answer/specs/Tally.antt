@@ -14,7 +14,7 @@ use Rattle.lists.specs.Pick.{pick-true}
 use Rattle.lists.specs.Place.{zeros-at}
 use Rattle.lists.specs.Mapped.{mapped-at}
 use Rattle.lists.specs.Span.{span, span-length}
-use Rattle.answer.specs.Outcome.{noCycle, edgesOf, cycleEdge, cycleList, outcomeList, answerList}
+use Rattle.answer.specs.Outcome.{noCycle, edgesOf, cycleEdge, cycleList, outcomeList, toldList}
 use Rattle.answer.specs.declared.Refusal.{Refusal}
 use Rattle.answer.specs.declared.Details.{Details}
 use Rattle.answer.specs.declared.Cycle.{Cycle}
@@ -57,15 +57,15 @@ module _ (c : Cycle) (t : Tallies c) where
       ∙ sym (getD-take (c .count) (c .edges) i 0 l)
 
   -- the list tells the edges of the cycle, all of them and no others
-  pub told-edges : (r : Refusal) (numbers : Details) → toldCycle (answerList r numbers c) ≡ edgesOf c
-  unfolding answerList outcomeList
-  told-edges r numbers =
+  pub told-edges : (r : Refusal) (told : Details) → toldCycle (toldList r told c) ≡ edgesOf c
+  unfolding toldList outcomeList
+  told-edges r told =
       ext-getD 0 (take (c .count) (cycleList c)) (edgesOf c) (listed-length ∙ sym (t .counts)) (λ i l. listed-at i (omega (arith, listed-length)))
 
   -- and place 4 is their number
-  pub told-count : (r : Refusal) (numbers : Details) → getD (answerList r numbers c) 4 0 ≡ length (edgesOf c)
-  unfolding answerList outcomeList
-  told-count r numbers = sym (t .counts)
+  pub told-count : (r : Refusal) (told : Details) → getD (toldList r told c) 4 0 ≡ length (edgesOf c)
+  unfolding toldList outcomeList
+  told-count r told = sym (t .counts)
 
 -- ---- one possibility
 

@@ -4,7 +4,7 @@ ghost use lib.Dec.{ltb};
 ghost use lib.Seq.{sets};
 ghost use Rattle.lists.specs.Pick.{pick};
 ghost use Rattle.answer.specs.Refused.{numberOf, detailsOf, fine, details};
-ghost use Rattle.answer.specs.Outcome.{noCycle, toldOf, cycleList, answerList};
+ghost use Rattle.answer.specs.Outcome.{noCycle, toldOf, cycleList, toldList, answerList};
 
 // Every refusal, in the table's order, with its details in the table's order. `None`: it answers.
 // A cycle that proves a refusal stands beside it, in a `Cycle`.
@@ -167,12 +167,11 @@ fn fill_cycle(answer: &mut [u32; 69], cycle: Cycle)
     }
 }
 
-// The answer as others link it, in every place; the refusal's number comes back as well.
-pub fn fill(answer: &mut [u32; 69], refusal: Refusal, numbers: Details, cycle: Cycle) -> u32
-    ensures { λ r. ⌜ (r ≡ numberOf refusal) × (now (answer .exit) ≡ answerList refusal numbers cycle) ⌝ }
+// What is told beside a refusal's number, and a cycle, as others link it, in every place; the number comes back as well.
+fn tell(answer: &mut [u32; 69], refusal: Refusal, told: Details, cycle: Cycle) -> u32
+    ensures { λ r. ⌜ (r ≡ numberOf refusal) × (now (answer .exit) ≡ toldList refusal told cycle) ⌝ }
 {
     let number = refusal.number();
-    let told = told_of(refusal, numbers);
     // what stood there does not matter
     *answer = [0; 69];
     answer[0] = number;
@@ -182,4 +181,19 @@ pub fn fill(answer: &mut [u32; 69], refusal: Refusal, numbers: Details, cycle: C
     answer[4] = cycle.count as u32;
     fill_cycle(answer, cycle);
     number
+}
+
+// An answer as others link it: its numbers where nothing is refused, else the refusal's details.
+pub fn fill(
+    answer: &mut [u32; 69],
+    refusal: Refusal,
+    first: u32,
+    second: u32,
+    third: u32,
+    cycle: Cycle,
+) -> u32
+    ensures { λ r. ⌜ (r ≡ numberOf refusal) × (now (answer .exit) ≡ answerList refusal (details first second third) cycle) ⌝ }
+{
+    let told = told_of(refusal, numbers_of(first, second, third));
+    tell(answer, refusal, told, cycle)
 }

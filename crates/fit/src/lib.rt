@@ -7,7 +7,6 @@ ghost use lib.ListN.{length, getD, take, replicate};
 ghost use Rattle.lists.specs.Fold.{top};
 ghost use Rattle.form.specs.declared.Form.{Form};
 ghost use Rattle.answer.specs.Refused.{fine};
-ghost use Rattle.form.specs.Ranges.{WellFormed};
 ghost use Rattle.legal.specs.Loop.{Loop, Pair, loopOf, pairOf};
 ghost use Rattle.tables.specs.Edges.{Ends, Told};
 ghost use Rattle.tables.specs.Times.{Timed};
@@ -157,21 +156,20 @@ fn fit_limits<'a>(
     }
 }
 
-// The retiming that fits the form's starts.
-pub fn fit_starts(form: Form) -> Fitting
-    requires { ⌜ WellFormed form ⌝ }
-    requires { ⌜ form .header .length ≢ 0 ⌝ }
-    ensures { λ r. ⌜ StartsFitted (loopOf form) (pairOf form) r ⌝ }
+// The retiming that fits the starts of the form that is lent.
+pub fn fit_starts<'a>(
+    edges: u16,
+    from: &'a [u8; 256],
+    to: &'a [u8; 256],
+    delays: &'a [u8; 256],
+    times: Timetable,
+) -> Fitting
+    requires { ⌜ ((f : Form) × Lent f edges (now from) (now to) (now delays) times) ⌝ }
+    requires { ⌜ times .length ≢ 0 ⌝ }
+    ensures { λ r. ⌜ ((f : Form) → Lent f edges (now (from .entry)) (now (to .entry)) (now (delays .entry)) times → StartsFitted (loopOf f) (pairOf f) r) ⌝ }
 {
-    let times = tables::times_of(form);
-    let limits = limits_of(form.header.edges, &form.from, &form.to, &form.delays, times);
-    fit_limits(
-        form.header.nodes,
-        form.header.edges,
-        &form.from,
-        &form.to,
-        limits,
-    )
+    let limits = limits_of(edges, from, to, delays, times);
+    fit_limits(times.nodes, edges, from, to, limits)
 }
 
 // A refusal of a form, and the cycle that proves it.
@@ -203,8 +201,7 @@ fn plan_tables<'a>(
     if 0 < knot.count {
         return unplanned(Refusal::Knot, knot);
     }
-    let limits = limits_of(edges, from, to, delays, times);
-    let fitting = fit_limits(times.nodes, edges, from, to, limits);
+    let fitting = fit_starts(edges, from, to, delays, times);
     let cycle = fitting.cycle;
     if !fitting.fits {
         return unplanned(Refusal::NoRetiming, cycle);

@@ -9,7 +9,7 @@ use native.Mathlib.Nat.{zero-add, not-suc-le-zero}
 use native.Mathlib.Numerals.{add-one}
 use native.Mathlib.Omega.{arith}
 use native.Mathlib.Decide.{ℕ-discrete}
-use lib.ListN.{length, getD, set, length-map, List·getD-map}
+use lib.ListN.{length, getD, length-map, List·getD-map}
 use borrow.Author.Needs.{needs}
 use borrow.Author.Tests.{le-ltb, lt-ltb, le-leb, lt-leb, eq-eqb, ne-eqb}
 use Rattle.lists.specs.Pick.{pick, pick-true, pick-false, pick-ind}
@@ -40,12 +40,6 @@ number-at s v = List·getD-map (λ b. b .0) s v noStep
 pub start-at : (f : Form) (v : ℕ) → startOf f v ≡ startNumber (startsOf f) v
 unfolding startsOf
 start-at f v = sym (number-at (f .start) v)
-
-pub numbers-set : (s : List BodyStep) (v : ℕ) (b : BodyStep) → numbersOf (set s v b) ≡ set (numbersOf s) v (b .0)
-unfolding numbersOf
-numbers-set [] v b = refl
-numbers-set (x ∷ xs) zero b = refl
-numbers-set (x ∷ xs) (suc v) b = ap (λ l. x .0 ∷ l) (numbers-set xs v b)
 
 pub both-false : (b : Bool) → b && false ≡ false
 both-false true = refl

@@ -1,6 +1,6 @@
 -- Units in use: the table raised for an operation, and the use of every node that is placed.
 -- Assumes nothing.
-use mathlib.Core.Path.{_≡_, refl, sym, _∙_}
+use mathlib.Core.Path.{_≡_, refl, sym, ap, _∙_}
 use mathlib.Core.Bool.{true, false}
 use mathlib.Core.Logic.{_≢_}
 use mathlib.Core.List.{List}
@@ -14,13 +14,15 @@ use borrow.Author.Tests.{le-ltb, lt-ltb, le-leb, lt-leb, eq-eqb, ne-eqb}
 use Rattle.lists.specs.Pick.{pick, pick-ind}
 use Rattle.lists.specs.Span.{span}
 use Rattle.lists.specs.Fold.{count}
-use Rattle.form.specs.declared.Form.{Form}
-use Rattle.form.specs.Places.{classOf, nodeOf}
-use Rattle.form.specs.Ranges.{WellFormed}
+use Rattle.lists.specs.Count.{count-same}
+use Rattle.form.specs.declared.Class.{Class}
+use Rattle.form.specs.Places.{noClass}
 use Rattle.form.specs.Hold.{hold}
-use Rattle.legal.specs.Loop.{graphOf, loopOf}
-use Rattle.list_rule.specs.Rule.{startNumber, uses}
-use Rattle.list_rule.specs.Tables.{holdsAt, Raised, Used}
+use Rattle.legal.specs.Loop.{Loop, Pair}
+use Rattle.tables.specs.declared.Timetable.{Timetable}
+use Rattle.tables.specs.Times.{SoundTimes, Timed}
+use Rattle.list_rule.specs.Rule.{startNumber, uses, inUse}
+use Rattle.list_rule.specs.Tables.{OnBoard, EndsInBody, holdsAt, holdsIn, Raised, Used}
 use Rattle.list_rule.proofs.Laws.{both-false, adds-one, adds-none, count-more, count-within, count-change}
 
 module _ (s k c q : ℕ) where
@@ -100,65 +102,64 @@ module _ (busy : List ℕ) (s k q : ℕ) (after : List ℕ) (r : Raised busy s k
 
 -- ---- the use of nodes
 
-abbrev pub classAt : Form → ℕ → ℕ
-classAt f v = nodeOf f v .class
+module _ (classes : List Class) (runs : List ℕ) where
+  abbrev pub rowOf : ℕ → Class
+  rowOf v = getD classes (getD runs v 0) noClass
 
-abbrev pub pastAt : Form → List ℕ → ℕ → ℕ
-pastAt f s v = startNumber s v + hold (classOf f (classAt f v))
-
-module _ (f : Form) (s : List ℕ) where
-  pub uses-holds : (c q v : ℕ) → uses (loopOf f) s c q v ≡ holdsAt (startNumber s v) (classAt f v) (pastAt f s v) c q
-  unfolding uses loopOf graphOf holdsAt
-  uses-holds c q v = elim (ℕ-discrete (classAt f v) c) [
-    | yes e ↦ rw e
-    | no e ↦ rw (ne-eqb (classAt f v) c e)
-  ]
-
-  pub used-none : (busy : List ℕ) → length busy ≡ 4128 → ((i : ℕ) → getD busy i 0 ≡ 0) → Used f s 0 busy
+  pub used-none : (s busy : List ℕ) → length busy ≡ 4128 → ((i : ℕ) → getD busy i 0 ≡ 0) → Used classes runs s 0 busy
   unfolding count span
-  used-none busy l z = record { size = l; at = λ c q a b. z (q * 4 + c) }
+  used-none s busy l z = record { size = l; at = λ c q a b. z (q * 4 + c) }
 
-  pub used-more : (v begins held : ℕ) (busy after : List ℕ) → begins ≡ startNumber s v → held ≡ hold (classOf f (classAt f v))
-      → Used f s v busy → Raised busy begins (classAt f v) (begins + held) after → Used f s (v + 1) after
-  used-more v begins held busy after is-begins is-held u r = record {
+  pub used-more : (s : List ℕ) (v held : ℕ) (busy after : List ℕ) → held ≡ hold (rowOf v)
+      → Used classes runs s v busy → Raised busy (startNumber s v) (getD runs v 0) (startNumber s v + held) after → Used classes runs s (v + 1) after
+  used-more s v held busy after is-held u r = record {
     size = r .size;
-    at = λ c q a b. r .at c q a b ∙ rw (u .at c q a b, is-begins, is-held, ← uses-holds) (sym (count-more (uses (loopOf f) s c q) v));
+    at = λ c q a b. r .at c q a b ∙ rw (u .at c q a b, is-held) (sym (count-more (holdsIn classes runs s c q) v));
   }
 
-  pub used-all : (n v : ℕ) (busy : List ℕ) → n ≡ v → Used f s v busy → Used f s n busy
-  used-all n v busy e u = rw e u
+  pub used-all : (s : List ℕ) (n v : ℕ) (busy : List ℕ) → n ≡ v → Used classes runs s v busy → Used classes runs s n busy
+  used-all s n v busy e u = rw e u
 
-  pub used-fits : (n : ℕ) (busy : List ℕ) → n ≤ 64 → Used f s n busy → (c q : ℕ) → c < 4 → q < 1032 → getD busy (q * 4 + c) 0 < 255
-  used-fits n busy h u c q a b = omega (arith, u .at c q a b, count-within (uses (loopOf f) s c q) n)
+  pub used-fits : (s : List ℕ) (n : ℕ) (busy : List ℕ) → n ≤ 64 → Used classes runs s n busy → (c q : ℕ) → c < 4 → q < 1032 → getD busy (q * 4 + c) 0 < 255
+  used-fits s n busy h u c q a b = omega (arith, u .at c q a b, count-within (holdsIn classes runs s c q) n)
 
--- a node placed at p uses what it holds, and the others what they used
-pub used-put : (f : Form) (s : List ℕ) (v p held : ℕ) (busy after : List ℕ) → v < f .header .nodes → v < length s → startNumber s v ≡ 0 → held ≡ hold (classOf f (classAt f v))
-    → Used f s (f .header .nodes) busy → Raised busy p (classAt f v) (p + held) after → Used f (set s v p) (f .header .nodes) after
-used-put f s v p held busy after v-in v-len none is-held u r = record {
-  size = r .size;
-  at = λ c q a b. r .at c q a b ∙ rw (u .at c q a b) (sym (count-change (uses (loopOf f) s c q) (uses (loopOf f) (set s v p) c q) (f .header .nodes) v v-in (others c q) (before c q) ∙ rw (new c q)));
-}
-  where
-    others : (c q u : ℕ) → u ≢ v → uses (loopOf f) (set s v p) c q u ≡ uses (loopOf f) s c q u
-    others c q u ne = rw (uses-holds f (set s v p) c q u, uses-holds f s c q u, getD-set-other s v u p 0 ne)
+  -- a node placed at p uses what it holds, and the others what they used
+  pub used-put : (s : List ℕ) (n v p held : ℕ) (busy after : List ℕ) → v < n → v < length s → startNumber s v ≡ 0 → held ≡ hold (rowOf v)
+      → Used classes runs s n busy → Raised busy p (getD runs v 0) (p + held) after → Used classes runs (set s v p) n after
+  used-put s n v p held busy after v-in v-len none is-held u r = record {
+    size = r .size;
+    at = λ c q a b. r .at c q a b ∙ rw (u .at c q a b) (sym (count-change (holdsIn classes runs s c q) (holdsIn classes runs (set s v p) c q) n v v-in (others c q) (before c q) ∙ rw (new c q)));
+  }
+    where
+      others : (c q u : ℕ) → u ≢ v → holdsIn classes runs (set s v p) c q u ≡ holdsIn classes runs s c q u
+      others c q u ne = ap (λ (a : ℕ). holdsAt a (getD runs u 0) (a + hold (rowOf u)) c q) (getD-set-other s v u p 0 ne)
 
-    before : (c q : ℕ) → uses (loopOf f) s c q v ≡ false
-    before c q = uses-holds f s c q v ∙ not-placed _ _ c q _ none
+      before : (c q : ℕ) → holdsIn classes runs s c q v ≡ false
+      before c q = not-placed _ _ c q _ none
 
-    new : (c q : ℕ) → uses (loopOf f) (set s v p) c q v ≡ holdsAt p (classAt f v) (p + held) c q
-    new c q = rw (uses-holds, getD-set-same s v p 0 v-len, is-held)
+      new : (c q : ℕ) → holdsIn classes runs (set s v p) c q v ≡ holdsAt p (getD runs v 0) (p + held) c q
+      new c q = ap (λ (a : ℕ). holdsAt a (getD runs v 0) (a + hold (rowOf v)) c q) (getD-set-same s v p 0 v-len) ∙ rw is-held
 
--- a node's class is on the board, and an operation holds a unit for at most 8 steps
-pub record Board (f : Form) (v : ℕ) : Type 0 where
-  pub class-in : classAt f v < 4
-  pub hold-in : hold (classOf f (classAt f v)) ≤ 8
-
-pub board-of : (f : Form) → WellFormed f → (v : ℕ) → v < f .header .nodes → Board f v
+-- a timetable's nodes run on its classes, each for at most 8 steps
+pub on-board : (t : Timetable) → SoundTimes t → EndsInBody t → (v : ℕ) → v < t .nodes → OnBoard (t .class) (t .runs) v
 unfolding hold
-board-of f w v h =
-    let l = w .node v h in
-    let k = w .class (classAt f v) l in
+on-board t sound ends v l =
+    let k = getD (t .class) (getD (t .runs) v 0) noClass in
+    let good = sound .class (getD (t .runs) v 0) (ends .on-class v l) in
     record {
-      class-in = omega arith;
-      hold-in = pick-ind (λ n. n ≤ 8) (eqb (classOf f (classAt f v) .pipelined) 0) (classOf f (classAt f v) .latency) 1 (λ e. k .latency .1) (λ e. omega arith);
+      class-in = sound .class-in v l;
+      hold-in = pick-ind (λ n. n ≤ 8) (eqb (k .pipelined) 0) (k .latency) 1 (λ e. good .latency .1) (λ e. omega arith);
     }
+
+-- what a loop's nodes use is what the timetable's hold
+module _ (g : Loop) (p : Pair) (t : Timetable) (timed : Timed g p t) where
+  uses-holds : (s : List ℕ) (c q v : ℕ) → v < t .nodes → uses g s c q v ≡ holdsIn (t .class) (t .runs) s c q v
+  unfolding uses holdsAt
+  uses-holds s c q v l = rw (timed .runs-on v l, timed .is-class c) (elim (ℕ-discrete (getD (t .runs) v 0) c) [
+    | yes e ↦ rw e
+    | no e ↦ rw (ne-eqb (getD (t .runs) v 0) c e)
+  ])
+
+  pub in-use-is : (s : List ℕ) (c q : ℕ) → inUse g s c q ≡ count (holdsIn (t .class) (t .runs) s c q) (span 0 (t .nodes))
+  unfolding inUse
+  in-use-is s c q = ap (λ (n : ℕ). count (uses g s c q) (span 0 n)) (timed .all-nodes) ∙ count-same (uses g s c q) (holdsIn (t .class) (t .runs) s c q) (t .nodes) (uses-holds s c q)

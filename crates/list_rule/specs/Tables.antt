@@ -11,9 +11,11 @@ use Rattle.lists.specs.Span.{span}
 use Rattle.lists.specs.Fold.{count}
 use Rattle.form.specs.declared.Form.{Form}
 use Rattle.form.specs.declared.BodyStep.{BodyStep}
-use Rattle.form.specs.Places.{startOf, latencyOf}
-use Rattle.legal.specs.Loop.{loopOf}
-use Rattle.list_rule.specs.Rule.{startNumber, uses}
+use Rattle.form.specs.declared.Class.{Class}
+use Rattle.form.specs.Places.{noClass}
+use Rattle.form.specs.Hold.{hold}
+use Rattle.tables.specs.declared.Timetable.{Timetable}
+use Rattle.list_rule.specs.Rule.{startNumber}
 
 -- the numbers of the steps in a table of starts
 unfoldable pub numbersOf : List BodyStep → List ℕ
@@ -27,9 +29,15 @@ startsOf f = numbersOf (f .start)
 abbrev pub weightOf : List ℕ → ℕ → ℕ
 weightOf weight v = getD weight v 0
 
--- a node that is placed before the list rule ends in the longest body; with start 0 it does in any case
-pub record EndsInBody (f : Form) : Type 0 where
-  pub at : (v : ℕ) → v < f .header .nodes → startOf f v + latencyOf f v ≤ 513
+-- node v runs on one of the 4 classes, and holds its unit for at most 8 steps
+pub record OnBoard (classes : List Class) (runs : List ℕ) (v : ℕ) : Type 0 where
+  pub class-in : getD runs v 0 < 4
+  pub hold-in : hold (getD classes (getD runs v 0) noClass) ≤ 8
+
+-- every node runs on one of the classes, and ends in the longest body where it is placed; with start 0 it does in any case
+pub record EndsInBody (t : Timetable) : Type 0 where
+  pub on-class : (v : ℕ) → v < t .nodes → getD (t .runs) v 0 < t .classes
+  pub in-body : (v : ℕ) → v < t .nodes → getD (t .start) v 0 + getD (t .latency) v 0 ≤ 513
 
 -- ---- units in use: step q and class c have the place q * 4 + c
 
@@ -42,10 +50,15 @@ pub record Raised (busy : List ℕ) (s k past : ℕ) (after : List ℕ) : Type 0
   pub size : length after ≡ 4128
   pub at : (c q : ℕ) → c < 4 → q < 1032 → getD after (q * 4 + c) 0 ≡ getD busy (q * 4 + c) 0 + pick (holdsAt s k past c q) 1 0
 
+-- node v holds a unit of class c in step q
+abbrev pub holdsIn : List Class → List ℕ → List ℕ → ℕ → ℕ → ℕ → Bool
+holdsIn classes runs s c q v =
+    holdsAt (startNumber s v) (getD runs v 0) (startNumber s v + hold (getD classes (getD runs v 0) noClass)) c q
+
 -- the units in use by the first n nodes
-pub record Used (f : Form) (s : List ℕ) (n : ℕ) (busy : List ℕ) : Type 0 where
+pub record Used (classes : List Class) (runs s : List ℕ) (n : ℕ) (busy : List ℕ) : Type 0 where
   pub size : length busy ≡ 4128
-  pub at : (c q : ℕ) → c < 4 → q < 1032 → getD busy (q * 4 + c) 0 ≡ count (uses (loopOf f) s c q) (span 0 n)
+  pub at : (c q : ℕ) → c < 4 → q < 1032 → getD busy (q * 4 + c) 0 ≡ count (holdsIn classes runs s c q) (span 0 n)
 
 -- ---- nodes that wait
 

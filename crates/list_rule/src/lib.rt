@@ -1,31 +1,21 @@
 // The list rule: nodes placed step by step, the heaviest that is ready first.
-ghost use mathlib.Core.Bool.{_||_};
 ghost use mathlib.Core.Path.{_≡_};
 ghost use Prim.Native.Nat.{ℕ, _+_, _*_, _≤_, _<_};
 ghost use lib.ListN.{length, getD, take};
-ghost use lib.Dec.{eqb, ltb};
+ghost use lib.Dec.{eqb};
 ghost use Rattle.lists.specs.Pick.{pick};
 ghost use Rattle.lists.specs.Span.{span};
 ghost use Rattle.lists.specs.Fold.{count};
-ghost use Rattle.form.specs.Places.{retimingOf};
-ghost use Rattle.form.specs.Ranges.{WellFormed};
-ghost use Rattle.form.specs.Hold.{hold};
-ghost use Rattle.legal.specs.Loop.{loopOf};
-ghost use Rattle.tables.specs.Edges.{Ends as EdgesIn};
-ghost use Rattle.reach.specs.Weight.{weight as weightIn};
-ghost use Rattle.list_rule.specs.Order.{insert as insertIn, orderOf};
+ghost use Rattle.legal.specs.Loop.{Loop, Pair};
+ghost use Rattle.tables.specs.Edges.{Ends, Told};
+ghost use Rattle.tables.specs.Times.{SoundTimes, Timed};
+ghost use Rattle.list_rule.specs.Order.{orderOf};
 ghost use Rattle.list_rule.specs.Rule.{startNumber, listRule};
-ghost use Rattle.list_rule.specs.Tables.{numbersOf, startsOf, weightOf, EndsInBody, Raised, Used, WaitsTabled, blocksAt};
-use form::BodyStep;
+ghost use Rattle.list_rule.specs.Tables.{weightOf, OnBoard, EndsInBody, Raised, Used, WaitsTabled, blocksAt};
 use form::Class;
-use form::Form;
-
-// How many steps an operation holds its unit, as wide as a step.
-fn hold_of(class: Class) -> u16
-    ensures { λ r. ⌜ r ≡ hold class ⌝ }
-{
-    form::hold_of(class) as u16
-}
+use form::hold_of;
+use tables::Timetable;
+use widths::wide;
 
 // The place of a step and a class in the table of use.
 fn spot(step: u16, class: u8) -> usize
@@ -34,47 +24,33 @@ fn spot(step: u16, class: u8) -> usize
     step as usize * 4 + class as usize
 }
 
-// A node that weighs less is passed, now or before.
-fn passed(before: bool, weight: u8, own: u8) -> bool
-    ensures { λ r. ⌜ r ≡ before || ltb weight own ⌝ }
+// The heavier, the lower.
+fn key_of(weight: u8) -> u32
+    ensures { λ r. ⌜ r + weight ≡ 255 ⌝ }
 {
-    if before {
-        return true;
-    }
-    weight < own
+    255 - weight as u32
 }
 
-// `node` goes before the first of the nodes so far that weighs less; from there on each moves one place.
-fn insert(order: &mut [u8; 64], node: u8, weight: [u8; 64])
-    requires { ⌜ (length (now order) ≡ 64) × (node < 64) ⌝ }
-    requires { ⌜ ((i : ℕ) → i < node → getD (now order) i 0 < 64) ⌝ }
-    ensures { λ _. ⌜ (length (now (order .exit)) ≡ 64) × (take (node + 1) (now (order .exit)) ≡ insertIn (weightOf weight) (take node (now (order .entry))) node) ⌝ }
+// A key for each node.
+fn keys_of(nodes: u8, weight: &[u8; 64]) -> [u32; 64]
+    requires { ⌜ nodes ≤ 64 ⌝ }
+    ensures { λ r. ⌜ ((v : ℕ) → v < nodes → getD r v 0 + weightOf (now (weight .entry)) v ≡ 255) ⌝ }
 {
-    let own = weight[node as usize];
-    let mut carried = node;
-    let mut lighter = false;
-    for k in 0..node {
-        let i = k as usize;
-        let u = order[i];
-        lighter = passed(lighter, weight[u as usize], own);
-        if lighter {
-            order[i] = carried;
-            carried = u;
-        }
+    let mut keys = [0u32; 64];
+    for v in 0..nodes {
+        let i = v as usize;
+        keys[i] = key_of(weight[i]);
     }
-    order[node as usize] = carried;
+    keys
 }
 
 // The nodes heaviest first, then lowest number.
-fn order_of(nodes: u8, weight: [u8; 64]) -> [u8; 64]
+fn order_of(nodes: u8, weight: &[u8; 64]) -> [u8; 64]
     requires { ⌜ nodes ≤ 64 ⌝ }
-    ensures { λ r. ⌜ (length r ≡ 64) × (take nodes r ≡ orderOf (weightOf weight) nodes) ⌝ }
+    ensures { λ r. ⌜ (length r ≡ 64) × (take nodes r ≡ orderOf (weightOf (now (weight .entry))) nodes) ⌝ }
 {
-    let mut order = [0u8; 64];
-    for v in 0..nodes {
-        insert(&mut order, v, weight);
-    }
-    order
+    let keys = keys_of(nodes, weight);
+    sorted::sorted(nodes, &keys)
 }
 
 // No unit is in use.
@@ -99,29 +75,34 @@ fn raise(busy: &mut [u8; 4128], begins: u16, class: u8, hold: u16)
     }
 }
 
-// The units in use by the starts of the form.
-fn busy_of(form: Form) -> [u8; 4128]
-    requires { ⌜ WellFormed form × EndsInBody form ⌝ }
-    ensures { λ r. ⌜ Used form (startsOf form) (form .header .nodes) r ⌝ }
+// The units in use by the starts given.
+fn busy_of<'a>(
+    nodes: u8,
+    classes: [Class; 4],
+    runs: &'a [u8; 64],
+    start: &'a [u16; 64],
+) -> [u8; 4128]
+    requires { ⌜ (nodes ≤ 64) × ((v : ℕ) → v < nodes → OnBoard classes (now runs) v × (getD (now start) v 0 ≤ 1024)) ⌝ }
+    ensures { λ r. ⌜ Used classes (now (runs .entry)) (now (start .entry)) nodes r ⌝ }
 {
     let mut busy = idle();
-    for v in 0..form.header.nodes {
+    for v in 0..nodes {
         let i = v as usize;
-        let number = form.node[i].class;
-        let class = form.class[number as usize];
-        raise(&mut busy, form.start[i].0, number, hold_of(class));
+        let number = runs[i];
+        let class = classes[number as usize];
+        raise(&mut busy, start[i], number, wide(hold_of(class)));
     }
     busy
 }
 
 // How many nodes are not placed.
-fn unplaced(nodes: u8, start: [BodyStep; 64]) -> u8
+fn unplaced(nodes: u8, start: &[u16; 64]) -> u8
     requires { ⌜ nodes ≤ 64 ⌝ }
-    ensures { λ r. ⌜ r ≡ count (λ v. eqb (startNumber (numbersOf start) v) 0) (span 0 nodes) ⌝ }
+    ensures { λ r. ⌜ r ≡ count (λ v. eqb (startNumber (now (start .entry)) v) 0) (span 0 nodes) ⌝ }
 {
     let mut left: u8 = 0;
     for v in 0..nodes {
-        if start[v as usize].0 == 0 {
+        if start[v as usize] == 0 {
             left += 1;
         }
     }
@@ -152,11 +133,11 @@ fn waiting<'a>(
     delays: &'a [u8; 256],
     retiming: &'a [u8; 64],
     latency: &'a [u8; 64],
-    start: [BodyStep; 64],
+    start: &'a [u16; 64],
     step: u16,
 ) -> [u16; 64]
-    requires { ⌜ EdgesIn 64 edges (now from) (now to) ⌝ }
-    ensures { λ r. ⌜ WaitsTabled (now (from .entry)) (now (to .entry)) (now (delays .entry)) (now (retiming .entry)) (now (latency .entry)) (numbersOf start) step edges r ⌝ }
+    requires { ⌜ Ends 64 edges (now from) (now to) ⌝ }
+    ensures { λ r. ⌜ WaitsTabled (now (from .entry)) (now (to .entry)) (now (delays .entry)) (now (retiming .entry)) (now (latency .entry)) (now (start .entry)) step edges r ⌝ }
 {
     let mut waits = [0u16; 64];
     for e in 0..edges {
@@ -167,7 +148,7 @@ fn waiting<'a>(
             delays[i],
             retiming[tail],
             retiming[head],
-            start[tail].0,
+            start[tail],
             latency[tail],
             step,
         );
@@ -176,44 +157,50 @@ fn waiting<'a>(
 }
 
 // Starts that are not 0 stay; the other nodes are placed.
-pub fn list_rule(form: Form, weight: [u8; 64]) -> [BodyStep; 64]
-    requires { ⌜ WellFormed form × EndsInBody form ⌝ }
-    requires { ⌜ ((v : ℕ) → v < form .header .nodes → getD weight v 0 ≡ weightIn (loopOf form) (retimingOf form) v) ⌝ }
-    ensures { λ r. ⌜ numbersOf r ≡ listRule (loopOf form) (retimingOf form) (startsOf form) ⌝ }
+pub fn list_rule<'a>(
+    edges: u16,
+    from: &'a [u8; 256],
+    to: &'a [u8; 256],
+    delays: &'a [u8; 256],
+    times: Timetable,
+) -> [u16; 64]
+    requires { ⌜ Ends (times .nodes) edges (now from) (now to) × SoundTimes times × EndsInBody times ⌝ }
+    ensures { λ r. ⌜ ((g : Loop) (p : Pair) → Told g (times .nodes) edges (now (from .entry)) (now (to .entry)) (now (delays .entry)) → Timed g p times → r ≡ listRule g (p .retiming) (times .start)) ⌝ }
 {
-    let nodes = form.header.nodes;
-    let order = order_of(nodes, weight);
-    let mut start = form.start;
-    let mut busy = busy_of(form);
-    let times = tables::times_of(form);
+    let nodes = times.nodes;
+    let classes = times.class;
+    let weight = reach::weights(nodes, edges, from, to, delays, &times.retiming);
+    let order = order_of(nodes, &weight);
+    let mut start = times.start;
+    let mut busy = busy_of(nodes, classes, &times.runs, &times.start);
     'steps: for p in 1..1024u16 {
-        if unplaced(nodes, start) == 0 {
+        if unplaced(nodes, &start) == 0 {
             break 'steps;
         }
         let waits = waiting(
-            form.header.edges,
-            &form.from,
-            &form.to,
-            &form.delays,
-            &form.retiming,
+            edges,
+            from,
+            to,
+            delays,
+            &times.retiming,
             &times.latency,
-            start,
+            &start,
             p,
         );
         'nodes: for i in 0..nodes {
             let v = order[i as usize] as usize;
-            if start[v].0 != 0 || waits[v] != 0 {
+            if start[v] != 0 || waits[v] != 0 {
                 continue 'nodes;
             }
-            let number = form.node[v].class;
-            let class = form.class[number as usize];
-            let hold = hold_of(class);
+            let number = times.runs[v];
+            let class = classes[number as usize];
+            let hold = wide(hold_of(class));
             for q in p..p + hold {
                 if class.units <= busy[spot(q, number)] {
                     continue 'nodes;
                 }
             }
-            start[v] = BodyStep(p);
+            start[v] = p;
             raise(&mut busy, p, number, hold);
         }
     }

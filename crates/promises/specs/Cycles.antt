@@ -11,7 +11,7 @@ use lib.ListN.{length, getD}
 use borrow.Author.Tests.{eqb-true, eq-eqb}
 use Rattle.lists.specs.Pick.{pick, pick-true, pick-false}
 use Rattle.answer.specs.Refused.{numberOf, fine, details}
-use Rattle.answer.specs.Outcome.{edgesOf, outcomeList, answerList, toldOf}
+use Rattle.answer.specs.Outcome.{edgesOf, outcomeList, toldList, answerList, toldOf}
 use Rattle.answer.specs.Tally.{Tallies, toldCycle, told-edges, told-count}
 use Rattle.answer.specs.declared.Cycle.{Cycle}
 use Rattle.answer.specs.declared.Details.{Details}
@@ -72,16 +72,16 @@ pub record CycleTold (g : Loop) (p : Pair) (number : ℕ) (list : List ℕ) : Ty
   pub impossible : number ≡ 14 → Impossible g p (toldCycle list)
   pub none : number ≢ 12 → number ≢ 14 → toldCycle list ≡ []
 
-module _ (A : Type 0) (meets : A → Type 0) (refused : A → Refusal) (numbers : A → Details) (cycle : A → Cycle) (number : ℕ) (list : List ℕ)
-    (a : Answered A meets refused numbers cycle number list) where
+module _ (A : Type 0) (meets : A → Type 0) (refused : A → Refusal) (told : A → Details) (cycle : A → Cycle) (number : ℕ) (list : List ℕ)
+    (a : Answered A meets refused told cycle number list) where
   module _ (tallies : (x : A) → meets x → Tallies (cycle x)) where
     told-is : toldCycle list ≡ edgesOf (cycle (a .given))
-    told-is = ap toldCycle (a .list-is) ∙ told-edges (cycle (a .given)) (tallies (a .given) (a .met)) (refused (a .given)) (numbers (a .given))
+    told-is = ap toldCycle (a .list-is) ∙ told-edges (cycle (a .given)) (tallies (a .given) (a .met)) (refused (a .given)) (told (a .given))
 
     count-is : getD list 4 0 ≡ length (toldCycle list)
     count-is =
         ap (λ (xs : List ℕ). getD xs 4 0) (a .list-is)
-        ∙ told-count (cycle (a .given)) (tallies (a .given) (a .met)) (refused (a .given)) (numbers (a .given))
+        ∙ told-count (cycle (a .given)) (tallies (a .given) (a .met)) (refused (a .given)) (told (a .given))
         ∙ ap length (sym told-is)
 
   -- whatever the function, where its contract hands a cycle over
@@ -127,7 +127,7 @@ module _ (s : List ℕ) where
   -- a run hands none over
   pub run-cycle : (k : ℕ) (starts values₀ finish₀ values finish : List ℕ) (number : ℕ) (list : List ℕ) → RunAnswered k s starts values₀ finish₀ values finish number list
       → (getD list 4 0 ≡ 0) × (toldCycle list ≡ [])
-  unfolding answerList outcomeList
+  unfolding toldList outcomeList
   run-cycle k starts values₀ finish₀ values finish number list a = (ap (λ (xs : List ℕ). getD xs 4 0) (a .list-is), ap toldCycle (a .list-is))
 
   -- the floor: with part 3 a cycle that the length below the floor is too short for
@@ -163,11 +163,11 @@ module _ (s : List ℕ) where
     number-at i = ap (λ (xs : List ℕ). getD xs i 0) (a .list-is)
 
     floor-told : number ≡ 0 → getD list 1 0 ≡ floorLength readLoop
-    unfolding answerList outcomeList toldOf pick
+    unfolding toldList outcomeList toldOf pick
     floor-told e = number-at 1 ∙ rw (fine-here e) refl ∙ a .met .floor ∙ pick-true _ _ _ (fine-here e)
 
     part-told : number ≡ 0 → getD list 2 0 ≡ partNumber (floored .part)
-    unfolding answerList outcomeList toldOf pick
+    unfolding toldList outcomeList toldOf pick
     part-told e = number-at 2 ∙ rw (fine-here e) refl
 
     -- a part is named only where nothing is refused

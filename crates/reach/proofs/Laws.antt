@@ -1,4 +1,4 @@
--- The tight edges, a table that is filled so far, and what a form's tables tell.
+-- The tight edges, a table that is filled so far, and what tables that are lent tell.
 -- Assumes nothing.
 use mathlib.Core.Path.{_≡_, refl, sym, _∙_, ap}
 use mathlib.Core.Bool.{Bool, true, false}
@@ -13,14 +13,12 @@ use borrow.Author.Count.{below-more}
 use borrow.Author.Tests.{eq-eqb, ne-eqb}
 use Rattle.lists.specs.Filled.{filled}
 use Rattle.lists.specs.Pick.{pick, pick-true, pick-false}
-use Rattle.form.specs.declared.Form.{Form}
-use Rattle.form.specs.Places.{retimingOf}
-use Rattle.form.specs.Ranges.{WellFormed}
 use Rattle.links.specs.Chains.{Chains, leads-on, leads-in, begins-in}
-use Rattle.legal.specs.Loop.{Loop, graphOf, loopOf}
-use Rattle.legal.specs.Shape.{joined-form}
+use Rattle.system.specs.Graph.{Joined}
+use Rattle.legal.specs.Loop.{Loop}
+use Rattle.tables.specs.Edges.{Ends, Told}
 use Rattle.reach.specs.Weight.{tight, weight}
-use Rattle.reach.specs.Tables.{HeadsLinked, TellsTight, weightsOf}
+use Rattle.reach.specs.Tables.{Retimed, TightsTabled, HeadsLinked, TellsTight, weightsOf, ends-wide}
 
 -- ---- the tight edges
 
@@ -38,36 +36,52 @@ is-one true = refl
 is-one false = refl
 
 -- a place more is filled
-pub tights-more : (f : Form) (ts : List ℕ) (e a : ℕ) → e < length ts → a ≡ pick (eqb (getD (f .delays) e 0 + retimingOf f (getD (f .from) e 0)) (retimingOf f (getD (f .to) e 0))) 1 0
-    → ((k : ℕ) → k < e → tight (loopOf f) (retimingOf f) k ≡ eqb (getD ts k 0) 1)
-    → (k : ℕ) → k < e + 1 → tight (loopOf f) (retimingOf f) k ≡ eqb (getD (set ts e a) k 0) 1
-unfolding tight loopOf graphOf
-tights-more f ts e a l is-a all =
-    below-more (λ k. tight (loopOf f) (retimingOf f) k ≡ eqb (getD (set ts e a) k 0) 1) e
+pub tights-more : (from to delays retiming ts : List ℕ) (e a : ℕ) → e < length ts
+    → a ≡ pick (eqb (getD delays e 0 + getD retiming (getD from e 0) 0) (getD retiming (getD to e 0) 0)) 1 0
+    → TightsTabled from to delays retiming e ts → TightsTabled from to delays retiming (e + 1) (set ts e a)
+tights-more from to delays retiming ts e a l is-a all =
+    below-more (λ k. eqb (getD delays k 0 + getD retiming (getD from k 0) 0) (getD retiming (getD to k 0) 0) ≡ eqb (getD (set ts e a) k 0) 1) e
     (λ k h. all k h ∙ ap (λ (x : ℕ). eqb x 1) (sym (getD-set-other ts e k a 0 (ne-of-lt h))))
     (is-one _ ∙ ap (λ (x : ℕ). eqb x 1) (sym (getD-set-same ts e a 0 l ∙ is-a)))
 
--- ---- a form's tables
+-- ---- tables that are lent
 
-module _ (f : Form) where
-  pub fits-form : (keys : ℕ → ℕ) (first next heads : List ℕ) → WellFormed f → Chains keys (f .header .edges) first next
-      → ((e : ℕ) → e < f .header .edges → getD heads e 0 < 64) → HeadsLinked (f .header .edges) first next heads
-  fits-form keys first next heads w c inside = record {
-    few = w .edges;
-    begins = begins-in keys _ _ _ c;
-    leads-on = leads-on keys _ _ _ c;
-    leads-in = leads-in keys _ _ _ c;
-    head-in = inside;
+module _ (nodes edges : ℕ) (from to : List ℕ) (ends : Ends nodes edges from to) (first next : List ℕ) (c : Chains (λ e. getD from e 0) edges first next) where
+  pub heads-linked : HeadsLinked edges first next to
+  heads-linked = record {
+    few = ends .few;
+    begins = begins-in _ _ _ _ c;
+    leads-on = leads-on _ _ _ _ c;
+    leads-in = leads-in _ _ _ _ c;
+    head-in = ends-wide nodes edges from to ends .head-in;
   }
 
-  pub weight-form : (v w : ℕ) (first next ts : List ℕ) → WellFormed f → Chains (λ e. getD (f .from) e 0) (f .header .edges) first next
-      → ((e : ℕ) → e < f .header .edges → tight (loopOf f) (retimingOf f) e ≡ eqb (getD ts e 0) 1)
-      → ((g : Loop) (r : ℕ → ℕ) → g .graph .nodes ≡ f .header .nodes → TellsTight g r (f .header .edges) first next (f .to) ts → w ≡ weight g r v) → w ≡ weight (loopOf f) (retimingOf f) v
-  unfolding loopOf graphOf
-  weight-form v w first next ts well c h all =
-      all (loopOf f) (retimingOf f) refl
-      (record { joined = joined-form f well; few-nodes = well .nodes .1; all = refl; out = c; is-head = λ e l. refl; is-tight = h })
+  module _ (g : Loop) (r : ℕ → ℕ) (delays retiming ts : List ℕ) (told : Told g nodes edges from to delays) (retimed : Retimed r nodes retiming)
+      (tights : TightsTabled from to delays retiming edges ts) where
+    joined : Joined (g .graph)
+    joined = record {
+      tails = λ e l. let m : e < edges = omega (arith, told .all-edges) in omega (arith, told .all-nodes, told .is-tail e m, ends .tail-in e m);
+      heads = λ e l. let m : e < edges = omega (arith, told .all-edges) in omega (arith, told .all-nodes, told .is-head e m, ends .head-in e m);
+    }
 
-  pub weights-form : (v : ℕ) (xs : List ℕ) → v ≡ f .header .nodes → xs ≡ filled 64 (weight (loopOf f) (retimingOf f)) v → xs ≡ weightsOf (loopOf f) (retimingOf f)
-  unfolding weightsOf loopOf graphOf
-  weights-form v xs e h = h ∙ rw e
+    is-tight : (e : ℕ) → e < edges → tight g r e ≡ eqb (getD ts e 0) 1
+    unfolding tight
+    is-tight e l =
+        rw (told .is-delay e l, told .is-tail e l, told .is-head e l, retimed (getD from e 0) (ends .tail-in e l), retimed (getD to e 0) (ends .head-in e l))
+        (tights e l)
+
+    pub tells-tight : TellsTight g r edges first next to ts
+    tells-tight = record {
+      joined = joined;
+      few-nodes = omega (arith, told .all-nodes, ends .most);
+      all = told .all-edges;
+      key = λ e. getD from e 0;
+      out = c;
+      is-tail = told .is-tail;
+      is-head = told .is-head;
+      is-tight = is-tight;
+    }
+
+pub weights-all : (g : Loop) (r : ℕ → ℕ) (v : ℕ) (xs : List ℕ) → g .graph .nodes ≡ v → xs ≡ filled 64 (weight g r) v → xs ≡ weightsOf g r
+unfolding weightsOf
+weights-all g r v xs e h = h ∙ ap (filled 64 (weight g r)) (sym e)

@@ -123,13 +123,13 @@ module _ (g : Loop) (r : ℕ → ℕ) (edges : ℕ) (first next heads tights : L
     pub half-first : u < 64 → Marked m u → Marking g r v m q from end (OutFrom g u 0) → Halfway g r v u m q from end (getD first u 0)
     half-first small h k = record {
       node-marked = h;
-      out-edge = λ l. first-key _ _ _ _ (t .out) u small (omega (arith, t .all));
+      out-edge = λ l. t .is-tail _ (omega (arith, t .all)) ∙ first-key _ _ _ _ (t .out) u small (omega (arith, t .all));
       marking = record {
         in-queue = k .in-queue;
         start-in = k .start-in;
         start = k .start;
         walked = k .walked;
-        onward = λ d l is-tight p. ⊎-elim inl (λ w. inr (⊎-elim inl (λ z. inr (z .0, none-before _ _ _ _ (t .out) u d small (z .0))) w)) (k .onward d l is-tight p);
+        onward = λ d l is-tight p. ⊎-elim inl (λ w. inr (⊎-elim inl (λ z. inr (z .0, none-before _ _ _ _ (t .out) u d small (sym (t .is-tail d (omega (arith, t .all))) ∙ z .0))) w)) (k .onward d l is-tight p);
       };
     }
 
@@ -153,6 +153,9 @@ module _ (g : Loop) (r : ℕ → ℕ) (edges : ℕ) (first next heads tights : L
     here : g .graph .tail e ≡ u
     here = h .out-edge in-graph
 
+    same-key : (d : ℕ) → d < g .graph .edges → g .graph .tail d ≡ u → t .key d ≡ t .key e
+    same-key d in-d z = sym (t .is-tail d (omega (arith, t .all))) ∙ z ∙ sym here ∙ t .is-tail e l
+
     -- a mark that is new is reached over edge e
     next-walked : (a : ℕ) → Marked m′ a → (es : List ℕ) × TightWalk g r v es a
     next-walked a p =
@@ -166,13 +169,13 @@ module _ (g : Loop) (r : ℕ → ℕ) (edges : ℕ) (first next heads tights : L
         ))
         (met .new a p)
 
-    next-late : (d : ℕ) → tight g r d ≡ true → OutFrom g u e d
+    next-late : (d : ℕ) → d < g .graph .edges → tight g r d ≡ true → OutFrom g u e d
         → Marked m′ (g .graph .head d) ⊎ (Waits q′ from end′ (g .graph .tail d) ⊎ OutFrom g u (getD next e 0) d)
-    next-late d is-tight z =
+    next-late d in-d is-tight z =
         ⊎-elim
         (λ same. inl (subst (λ (b : ℕ). Marked m′ (g .graph .head b)) same
         (subst (λ (b : ℕ). Marked m′ b) (sym (t .is-head e l)) (met .marks (eqb-true _ _ (sym (t .is-tight e l) ∙ subst (λ (b : ℕ). tight g r b ≡ true) (sym same) is-tight))))))
-        (λ less. inr (inr (z .0, none-between _ _ _ _ (t .out) e d l (z .0 ∙ sym here) less)))
+        (λ less. inr (inr (z .0, none-between _ _ _ _ (t .out) e d l (same-key d in-d (z .0)) less)))
         (eq-or-lt-of-le (z .1))
 
     -- what waited still waits
@@ -188,7 +191,7 @@ module _ (g : Loop) (r : ℕ → ℕ) (edges : ℕ) (first next heads tights : L
         → Marked m′ (g .graph .head d) ⊎ (Waits q′ from end′ (g .graph .tail d) ⊎ OutFrom g u (getD next e 0) d)
     next-onward d in-d is-tight p =
         ⊎-elim
-        (λ old. ⊎-elim (λ w. inl (met .keeps _ w)) (λ w. ⊎-elim (λ z. inr (inl (next-waits _ z))) (next-late d is-tight) w) (h .marking .onward d in-d is-tight old))
+        (λ old. ⊎-elim (λ w. inl (met .keeps _ w)) (λ w. ⊎-elim (λ z. inr (inl (next-waits _ z))) (next-late d in-d is-tight) w) (h .marking .onward d in-d is-tight old))
         (λ z.
         let w = z .2 in
         inr (inl (record { place = w .place; place-from = omega (arith, w .place-from, h .marking .in-queue); place-to = w .place-to; is-node = w .is-node })))
@@ -198,7 +201,7 @@ module _ (g : Loop) (r : ℕ → ℕ) (edges : ℕ) (first next heads tights : L
     pub half-next : Halfway g r v u m′ q′ from end′ (getD next e 0)
     half-next = record {
       node-marked = met .keeps u (h .node-marked);
-      out-edge = λ n. next-key _ _ _ _ (t .out) e l (omega (arith, t .all)) ∙ here;
+      out-edge = λ n. t .is-tail _ (omega (arith, t .all)) ∙ next-key _ _ _ _ (t .out) e l (omega (arith, t .all)) ∙ sym (t .is-tail e l) ∙ here;
       marking = record {
         in-queue = omega (arith, met .grows, h .marking .in-queue);
         start-in = h .marking .start-in;

@@ -2,7 +2,8 @@
 -- Assumes nothing.
 use mathlib.Core.Path.{_≡_}
 use mathlib.Core.List.{List}
-use Prim.Native.Nat.{ℕ, _≤_, _<_}
+use Prim.Native.Nat.{ℕ, _+_, _≤_, _<_}
+use native.Mathlib.Omega.{arith}
 use lib.Dec.{eqb}
 use lib.ListN.{getD}
 use Rattle.lists.specs.Filled.{filled, filled-at}
@@ -11,11 +12,21 @@ use Rattle.lists.specs.Fold.{count}
 use Rattle.links.specs.Chains.{Chains}
 use Rattle.system.specs.Graph.{Joined}
 use Rattle.legal.specs.Loop.{Loop}
+use Rattle.tables.specs.Edges.{Ends}
 use Rattle.reach.specs.Weight.{tight, weight}
 
 -- how many of the first n nodes are marked
 unfoldable pub marked : List ℕ → ℕ → ℕ
 marked m n = count (λ u. eqb (getD m u 0) 1) (span 0 n)
+
+-- the table holds the retimings of the nodes
+abbrev pub Retimed : (ℕ → ℕ) → ℕ → List ℕ → Type 0
+Retimed r nodes retiming = (v : ℕ) → v < nodes → r v ≡ getD retiming v 0
+
+-- a 1 for each of the first n edges of the tables whose retimed delay is 0, and for no other
+abbrev pub TightsTabled : List ℕ → List ℕ → List ℕ → List ℕ → ℕ → List ℕ → Type 0
+TightsTabled from to delays retiming n tights =
+    (e : ℕ) → e < n → eqb (getD delays e 0 + getD retiming (getD from e 0) 0) (getD retiming (getD to e 0) 0) ≡ eqb (getD tights e 0) 1
 
 -- the edges have places in the tables and their heads in the marks, and the links lead on among them
 pub record HeadsLinked (edges : ℕ) (first next heads : List ℕ) : Type 0 where
@@ -30,7 +41,9 @@ pub record TellsTight (g : Loop) (r : ℕ → ℕ) (edges : ℕ) (first next hea
   pub joined : Joined (g .graph)
   pub few-nodes : g .graph .nodes ≤ 64
   pub all : g .graph .edges ≡ edges
-  pub out : Chains (g .graph .tail) edges first next
+  pub key : ℕ → ℕ
+  pub out : Chains key edges first next
+  pub is-tail : (e : ℕ) → e < edges → g .graph .tail e ≡ key e
   pub is-head : (e : ℕ) → e < edges → g .graph .head e ≡ getD heads e 0
   pub is-tight : (e : ℕ) → e < edges → tight g r e ≡ eqb (getD tights e 0) 1
 
@@ -42,3 +55,13 @@ weightsOf g r = filled 64 (weight g r) (g .graph .nodes)
 pub weights-at : (g : Loop) (r : ℕ → ℕ) (v : ℕ) → v < g .graph .nodes → getD (weightsOf g r) v 0 ≡ weight g r v
 unfolding weightsOf
 weights-at g r v l = filled-at 64 (weight g r) (g .graph .nodes) v l
+
+-- tables of so many nodes have a place for each node in tables of 64
+pub ends-wide : (nodes edges : ℕ) (from to : List ℕ) → Ends nodes edges from to → Ends 64 edges from to
+ends-wide nodes edges from to w = record {
+  some = omega arith;
+  most = omega arith;
+  few = w .few;
+  tail-in = λ e l. omega (arith, w .tail-in e l, w .most);
+  head-in = λ e l. omega (arith, w .head-in e l, w .most);
+}

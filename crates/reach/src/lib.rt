@@ -4,13 +4,11 @@ ghost use Prim.Native.Nat.{ℕ, _+_, _≤_, _<_};
 ghost use lib.Dec.{eqb};
 ghost use lib.ListN.{getD};
 ghost use Rattle.lists.specs.Pick.{pick};
-ghost use Rattle.form.specs.Places.{retimingOf};
-ghost use Rattle.form.specs.Ranges.{WellFormed};
-ghost use Rattle.legal.specs.Loop.{Loop, loopOf};
-ghost use Rattle.reach.specs.Weight.{tight, weight};
-ghost use Rattle.reach.specs.Tables.{HeadsLinked, TellsTight, weightsOf};
+ghost use Rattle.legal.specs.Loop.{Loop};
+ghost use Rattle.tables.specs.Edges.{Ends, Told};
+ghost use Rattle.reach.specs.Weight.{weight};
+ghost use Rattle.reach.specs.Tables.{Retimed, TightsTabled, HeadsLinked, TellsTight, weightsOf};
 ghost use Rattle.reach.specs.Marking.{Queued, Met, Spread, Levelled, Reaches};
-use form::Form;
 use widths::wide;
 
 // 1 for an edge of so many delays whose nodes' retimings make it tight, else 0.
@@ -24,16 +22,22 @@ fn tight_mark(delays: u8, tail: u8, head: u8) -> u8
 }
 
 // A 1 for each edge of retimed delay 0; 0 for the others, and past the edges.
-fn tights_of(form: Form) -> [u8; 256]
-    requires { ⌜ WellFormed form ⌝ }
-    ensures { λ t. ⌜ ((e : ℕ) → e < form .header .edges → tight (loopOf form) (retimingOf form) e ≡ eqb (getD t e 0) 1) ⌝ }
+fn tights_of<'a>(
+    edges: u16,
+    from: &'a [u8; 256],
+    to: &'a [u8; 256],
+    delays: &'a [u8; 256],
+    retiming: &'a [u8; 64],
+) -> [u8; 256]
+    requires { ⌜ Ends 64 edges (now from) (now to) ⌝ }
+    ensures { λ t. ⌜ TightsTabled (now (from .entry)) (now (to .entry)) (now (delays .entry)) (now (retiming .entry)) edges t ⌝ }
 {
     let mut tights = [0u8; 256];
     let mut e: usize = 0;
-    while e < form.header.edges as usize {
-        let tail = form.from[e] as usize;
-        let head = form.to[e] as usize;
-        tights[e] = tight_mark(form.delays[e], form.retiming[tail], form.retiming[head]);
+    while e < edges as usize {
+        let tail = from[e] as usize;
+        let head = to[e] as usize;
+        tights[e] = tight_mark(delays[e], retiming[tail], retiming[head]);
         e += 1;
     }
     tights
@@ -172,24 +176,23 @@ fn weight_of<'a>(
     reached - 1
 }
 
-// The weight of each node under the form's retimings; 0 past the nodes. At most N+E steps from each of the N nodes.
-pub fn weights(form: Form) -> [u8; 64]
-    requires { ⌜ WellFormed form ⌝ }
-    ensures { λ w. ⌜ w ≡ weightsOf (loopOf form) (retimingOf form) ⌝ }
+// The weight of each node under the retimings; 0 past the nodes. At most N+E steps from each of the N nodes.
+pub fn weights<'a>(
+    nodes: u8,
+    edges: u16,
+    from: &'a [u8; 256],
+    to: &'a [u8; 256],
+    delays: &'a [u8; 256],
+    retiming: &'a [u8; 64],
+) -> [u8; 64]
+    requires { ⌜ Ends nodes edges (now from) (now to) ⌝ }
+    ensures { λ w. ⌜ ((g : Loop) (r : ℕ → ℕ) → Told g nodes edges (now (from .entry)) (now (to .entry)) (now (delays .entry)) → Retimed r nodes (now (retiming .entry)) → w ≡ weightsOf g r) ⌝ }
 {
-    let tights = tights_of(form);
-    let out = links::links_of(&form.from, form.header.edges);
+    let tights = tights_of(edges, from, to, delays, retiming);
+    let out = links::links_of(from, edges);
     let mut weights = [0u8; 64];
-    for v in 0..form.header.nodes {
-        weights[v as usize] = weight_of(
-            v,
-            form.header.nodes,
-            form.header.edges,
-            &out.first,
-            &out.next,
-            &form.to,
-            &tights,
-        );
+    for v in 0..nodes {
+        weights[v as usize] = weight_of(v, nodes, edges, &out.first, &out.next, to, &tights);
     }
     weights
 }

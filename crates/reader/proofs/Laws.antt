@@ -11,13 +11,14 @@ use native.Mathlib.Numerals.{add-one}
 use native.Mathlib.Omega.{arith}
 use borrow.Author.Needs.{needs}
 use borrow.Author.Tests.{le-ltb, lt-ltb, le-leb, lt-leb, eq-eqb, ne-eqb}
-use Rattle.lists.specs.Pick.{pick}
+use Rattle.lists.specs.Pick.{pick, pick-ind, both-ways}
 use Rattle.answer.specs.Refused.{fine}
 use Rattle.reader.specs.declared.Reading.{Reading}
 use Rattle.answer.specs.declared.Refusal.{Refusal}
-use Rattle.answer.specs.declared.Refusal.the-variants.{None, Retiming, Tail}
+use Rattle.answer.specs.declared.Refusal.the-variants.{None, Tail}
 use Rattle.form.specs.declared.Form.{Form}
-use Rattle.form.specs.Places.{noStep, emptyForm, scheduled, scheduledOf, withClasses, withNodes, withEdges, withStarts, withHeader}
+use Rattle.form.specs.Places.{noStep, emptyForm, withCounts, scheduled, scheduledOf, withClasses, withNodes, withEdges, withStarts, withHeader}
+use Rattle.reader.specs.declared.Prefix.{Prefix}
 use Rattle.reader.specs.declared.Record.{Record}
 use Rattle.reader.specs.declared.Counts.{Counts}
 use Rattle.reader.specs.declared.ClassTable.{ClassTable}
@@ -25,7 +26,7 @@ use Rattle.reader.specs.declared.NodeTable.{NodeTable}
 use Rattle.reader.specs.declared.EdgeTable.{EdgeTable}
 use Rattle.reader.specs.declared.StartTable.{StartTable}
 use Rattle.reader.specs.Tables.{headerOf, table, classStep, nodeStep, edgeStep, startStep, Headed, Stage, ClassesRead, NodesRead, EdgesRead, StartsRead}
-use Rattle.reader.specs.Reading.{zeroFrom, normalized, retimingOffset, endOf, answered, classesRead, nodesRead, edgesRead, startsRead, readForm}
+use Rattle.reader.specs.Reading.{zeroFrom, retimingOffset, classesRead, nodesRead, edgesRead, startsRead, endOf, fronted, prefixOf, tailOf, answered, readForm}
 
 -- an array of structs as a field: its length, from what owning the struct tells
 pub length-mapped : {X Y : Type 0} (f : X → Y) (l : List X) (n : ℕ) → length (map f l) ≡ n → length l ≡ n
@@ -34,41 +35,19 @@ length-mapped f l n p = sym (length-map l f) ∙ p
 -- a definition's tests, settled from what a branch showed
 pub ruleset tests = (needs, length-mapped, le-ltb, lt-ltb, le-leb, lt-leb, eq-eqb, ne-eqb)
 
--- row i of n is next: the rest of the table is the whole, the counts are as they were, and no row is wider than `width`
+-- row i of n is next: the rest of the table is the whole, and no row is wider than `width`
 pub record Going (step : ℕ → Reading → Reading) (n : ℕ) (x : Reading) (width i : ℕ) (y : Reading) : Type 0 where
   pub within : i ≤ n
   pub rest : table step (n - i) i y ≡ table step n 0 x
-  pub classes : y .form .header .classes ≡ x .form .header .classes
-  pub nodes : y .form .header .nodes ≡ x .form .header .nodes
-  pub edges : y .form .header .edges ≡ x .form .header .edges
-  pub length : y .form .header .length ≡ x .form .header .length
   pub near : y .next .at ≤ x .next .at + width * i
 
 module _ (step : ℕ → Reading → Reading) (n : ℕ) (x : Reading) (width : ℕ) where
   pub begin : Going step n x width 0 x
-  begin = record {
-    within = omega arith;
-    rest = rw sub-zero;
-    classes = refl;
-    nodes = refl;
-    edges = refl;
-    length = refl;
-    near = omega arith;
-  }
+  begin = record { within = omega arith; rest = rw sub-zero; near = omega arith }
 
   module _ (i : ℕ) (y : Reading) (g : Going step n x width i y) where
-    reaches : y .next .at ≤ x .next .at + width * n
-    reaches = omega (arith, g .near, mul-le-mul-left width (g .within))
-
     ends : table step (n - i) i y ≡ y → Stage step n x width y
-    ends e = record {
-      is = sym e ∙ g .rest;
-      classes = g .classes;
-      nodes = g .nodes;
-      edges = g .edges;
-      length = g .length;
-      near = reaches;
-    }
+    ends e = record { is = sym e ∙ g .rest; near = omega (arith, g .near, mul-le-mul-left width (g .within)) }
 
     -- a refused row ends the table
     pub stop : i < n → fine (y .next .refusal) ≡ false → Stage step n x width y
@@ -84,20 +63,14 @@ module _ (step : ℕ → Reading → Reading) (n : ℕ) (x : Reading) (width : �
         let left : n - i ≡ 0 = omega arith in
         ends (rw (left, table))
 
-    -- one row more, that keeps the counts and is no wider than `width`
-    pub turn : i < n → fine (y .next .refusal) ≡ true → (z : Reading) → z ≡ step i y
-        → z .form .header .classes ≡ y .form .header .classes → z .form .header .nodes ≡ y .form .header .nodes → z .form .header .edges ≡ y .form .header .edges → z .form .header .length ≡ y .form .header .length
-        → z .next .at ≤ y .next .at + width → Going step n x width (i + 1) z
+    -- one row more, no wider than `width`
+    pub turn : i < n → fine (y .next .refusal) ≡ true → (z : Reading) → z ≡ step i y → z .next .at ≤ y .next .at + width → Going step n x width (i + 1) z
     unfolding table pick
-    turn h f z e c v d l w =
+    turn h f z e w =
         let left : n - i ≡ suc (n - (i + 1)) = omega arith in
         record {
           within = omega arith;
           rest = rw e (sym (rw (left, table, f)) ∙ g .rest);
-          classes = c ∙ g .classes;
-          nodes = v ∙ g .nodes;
-          edges = d ∙ g .edges;
-          length = l ∙ g .length;
           near = rw (add-one, mul-suc) (omega (arith, w, g .near));
         }
 
@@ -122,19 +95,6 @@ module _ (n i : ℕ) (rs : List ℕ) (whole : Bool) where
       let left : n - i ≡ 0 = omega arith in
       rw left at e
 
--- ---- after the last field
-
--- where "none is 0" refuses nothing, what is left decides
-last : (b : Bool) (o : ℕ) (t : Refusal) → pick (fine (pick b None (Retiming o))) t (pick b None (Retiming o)) ≡ pick b t (Retiming o)
-unfolding pick fine
-last true o t = refl
-last false o t = refl
-
-pub ended : (s : List ℕ) (x : Reading) (u t e r : Refusal) → u ≡ pick (normalized (x .form .header .length) (x .form .header .nodes) (x .form .retiming)) None (Retiming (retimingOffset (x .form)))
-    → t ≡ pick (ltb (x .next .at) (length s)) (Tail (x .next .at)) None → e ≡ pick (fine u) t u → r ≡ pick (fine (x .next .refusal)) e (x .next .refusal) → r ≡ endOf s x
-unfolding endOf
-ended s x u t e r eu et ee er = rw (er, ee, eu, last (normalized (x .form .header .length) (x .form .header .nodes) (x .form .retiming)) (retimingOffset (x .form)) t, et)
-
 -- ---- the whole record
 
 pub staged : (s : List ℕ) (h k v e x : Reading) (n : ℕ) → h ≡ headerOf s → k ≡ table (classStep s) (h .form .header .classes) 0 h
@@ -143,62 +103,101 @@ pub staged : (s : List ℕ) (h k v e x : Reading) (n : ℕ) → h ≡ headerOf s
 unfolding classesRead nodesRead edgesRead startsRead
 staged s h k v e x n eh ek ev ee en ex = rw (ex, en, ee, ev, ek, eh)
 
-module _ (s : List ℕ) (x : Reading) (r : Refusal) where
-  pub read-refused : (f : Form) → x ≡ startsRead s → r ≡ endOf s x → fine r ≡ false → f ≡ emptyForm
-      → _≡_ {A = Record} (record { refusal = r; form = f }) (readForm s)
-  unfolding readForm answered pick
-  read-refused f ex er b e = rw (← ex, ← er, b, e)
+-- a record of which something is refused ends nowhere
+tail-picked : (b : Bool) (at n : ℕ) (r : Refusal) → pick b (pick (ltb at n) (Tail at) None) r ≡ pick b (pick (ltb (pick b at 0) n) (Tail (pick b at 0)) None) r
+unfolding pick
+tail-picked true at n r = refl
+tail-picked false at n r = refl
 
-  pub read-fine : x ≡ startsRead s → r ≡ endOf s x → fine r ≡ true
-      → _≡_ {A = Record} (record { refusal = r; form = x .form }) (readForm s)
-  unfolding readForm answered pick
-  read-fine ex er b = rw (← ex, ← er, b)
+-- where the first of two refuses nothing, neither of them does
+first-fine : (r t q : Refusal) → q ≡ pick (fine r) t r → fine q ≡ true → fine r ≡ true
+first-fine r t q e b = pick-ind (λ p. fine p ≡ true → fine r ≡ true) (fine r) t r (λ f g. f) (λ f g. both-ways g f) (ap fine (sym e) ∙ b)
 
--- the tables, each read from where the one before it ends
-module _
-    (s : List ℕ)
-    (h : Counts)
-    (k : ClassTable)
-    (v : NodeTable)
-    (e : EdgeTable)
-    (n : ℕ)
-    (x : StartTable)
-    (headed : Headed s h)
-    (ks : ClassesRead s (h .next) (h .header .classes) k)
-    (ns : NodesRead s (k .next) (h .header .classes) (h .header .nodes) v)
-    (es : EdgesRead s (v .next) (h .header .nodes) (h .header .edges) e)
-    (en : n ≡ scheduledOf (h .header .length) (h .header .nodes))
-    (ss : StartsRead s (e .next) (h .header .length) (k .class) (v .node) n x) where
-  abbrev counted : Form
-  counted = withHeader emptyForm (h .header)
+-- what is refused at the front, then what is left past it
+module _ (s : List ℕ) (x : Reading) (ex : x ≡ startsRead s) (r : Refusal) (er : r ≡ endOf x) where
+  front-refused : (n : ℕ) (f : Form) → fine r ≡ false → n ≡ 0 → f ≡ emptyForm → _≡_ {A = Prefix} (record { refusal = r; size = n; form = f }) (prefixOf s)
+  unfolding prefixOf fronted pick
+  front-refused n f b en ef = rw (← ex, ← er, b, en, ef)
 
-  -- the form that they make, and the cursor past them
-  abbrev pub whole : Reading
-  whole = record {
-    form = withStarts (withEdges (withNodes (withClasses counted (k .class)) (v .node)) (e .from) (e .to) (e .delays)) (x .start) (x .retiming);
-    next = x .next;
-  }
+  front-fine : fine r ≡ true → _≡_ {A = Prefix} (record { refusal = r; size = x .next .at; form = x .form }) (prefixOf s)
+  unfolding prefixOf fronted pick
+  front-fine b = rw (← ex, ← er, b)
 
-  pub whole-read : whole ≡ startsRead s
-  unfolding emptyForm
-  whole-read =
-      let classed = withClasses counted (k .class) in
-      let noded = withNodes classed (v .node) in
-      let edged = withEdges noded (e .from) (e .to) (e .delays) in
-      staged s
-      (record { form = counted; next = h .next })
-      (record { form = classed; next = k .next })
-      (record { form = noded; next = v .next })
-      (record { form = edged; next = e .next })
-      whole n (headed .is) (ks counted .is) (ns classed refl .is) (es noded refl .is) en (ss edged refl refl refl .is)
+  module _ (t q : Refusal) (et : t ≡ pick (ltb (x .next .at) (length s)) (Tail (x .next .at)) None) (eq : q ≡ pick (fine r) t r) where
+    tail-is : q ≡ tailOf s (prefixOf s)
+    unfolding tailOf prefixOf fronted
+    tail-is = rw (← ex, ← er, eq, et) (tail-picked (fine r) (x .next .at) (length s) r)
 
-  module _ (r : Refusal) (er : r ≡ endOf s (record { form = withStarts counted (replicate 64 noStep) (x .retiming); next = x .next })) where
-    -- a refused record comes with the empty form
-    pub answered-refused : fine r ≡ false → (a : Record) → a .refusal ≡ r → a .form ≡ emptyForm → a ≡ readForm s
-    unfolding endOf retimingOffset
-    answered-refused b a ea ef = read-refused s whole (a .refusal) (a .form) whole-read (ea ∙ er) (ap fine ea ∙ b) ef
+    read-refused : (f : Form) → fine q ≡ false → f ≡ emptyForm → _≡_ {A = Record} (record { refusal = q; form = f }) (readForm s)
+    unfolding readForm answered pick
+    read-refused f b e = rw (← tail-is, b, e)
 
-    -- any other with what was read
-    pub answered-fine : fine r ≡ true → _≡_ {A = Record} (record { refusal = r; form = whole .form }) (readForm s)
-    unfolding endOf retimingOffset
-    answered-fine b = read-fine s whole r whole-read er b
+    read-fine : fine q ≡ true → _≡_ {A = Record} (record { refusal = q; form = x .form }) (readForm s)
+    unfolding readForm answered pick
+    read-fine b = rw (← tail-is, b) (ap (λ (p : Prefix). record { refusal = q; form = p .form }) (front-fine (first-fine r t q eq b)))
+
+-- the tables, each read from where the one before it ends, and how far they reach
+module _ (s : List ℕ) (h : Counts) (headed : Headed s h) (k : ClassTable) (ks : ClassesRead s (h .next) (h .header .classes) k) where
+  pub classes-end : k .next .at ≤ 23
+  classes-end = omega (arith, headed .few-classes, headed .near, ks emptyForm .near)
+
+  module _ (v : NodeTable) (ns : NodesRead s (k .next) (h .header .classes) (h .header .nodes) v) where
+    pub nodes-end : v .next .at ≤ 407
+    nodes-end = omega (arith, headed .few-nodes, classes-end, ns (withCounts emptyForm (h .header .classes) 0 0 0) refl .near)
+
+    module _ (e : EdgeTable) (es : EdgesRead s (v .next) (h .header .nodes) (h .header .edges) e) where
+      pub edges-end : e .next .at ≤ 1175
+      edges-end = omega (arith, headed .few-edges, nodes-end, es (withCounts emptyForm 0 (h .header .nodes) 0 0) refl .near)
+
+      module _
+          (n : ℕ)
+          (en : (n ≡ scheduledOf (h .header .length) (h .header .nodes)) × (n ≤ h .header .nodes))
+          (x : StartTable)
+          (ss : StartsRead s (e .next) (h .header .length) (k .class) (v .node) n x) where
+        pub starts-end : x .next .at ≤ 1367
+        starts-end =
+            omega (arith, headed .few-nodes, en .1, edges-end, ss (withNodes (withClasses (withCounts emptyForm 0 0 0 (h .header .length)) (k .class)) (v .node)) refl refl refl .near)
+
+        abbrev counted : Form
+        counted = withHeader emptyForm (h .header)
+
+        -- the form that they make, and the cursor past them
+        abbrev pub whole : Reading
+        whole = record {
+          form = withStarts (withEdges (withNodes (withClasses counted (k .class)) (v .node)) (e .from) (e .to) (e .delays)) (x .start) (x .retiming);
+          next = x .next;
+        }
+
+        pub whole-read : whole ≡ startsRead s
+        unfolding emptyForm
+        whole-read =
+            let classed = withClasses counted (k .class) in
+            let noded = withNodes classed (v .node) in
+            let edged = withEdges noded (e .from) (e .to) (e .delays) in
+            staged s
+            (record { form = counted; next = h .next })
+            (record { form = classed; next = k .next })
+            (record { form = noded; next = v .next })
+            (record { form = edged; next = e .next })
+            whole n (headed .is) (ks counted .is) (ns classed refl .is) (es noded refl .is) (en .0) (ss edged refl refl refl .is)
+
+        module _ (r : Refusal) (er : r ≡ endOf (record { form = withStarts counted (replicate 64 noStep) (x .retiming); next = x .next })) where
+          end-is : r ≡ endOf whole
+          unfolding endOf retimingOffset
+          end-is = er
+
+          -- a refused record comes with the empty form
+          pub prefix-refused : fine r ≡ false → (a : Prefix) → a .refusal ≡ r → a .size ≡ 0 → a .form ≡ emptyForm → a ≡ prefixOf s
+          prefix-refused b a ea en ef = front-refused s whole whole-read (a .refusal) (ea ∙ end-is) (a .size) (a .form) (ap fine ea ∙ b) en ef
+
+          -- any other with what was read
+          pub prefix-fine : fine r ≡ true → _≡_ {A = Prefix} (record { refusal = r; size = x .next .at; form = whole .form }) (prefixOf s)
+          prefix-fine b = front-fine s whole whole-read r end-is b
+
+          module _ (t : Refusal) (et : t ≡ pick (ltb (x .next .at) (length s)) (Tail (x .next .at)) None) (q : Refusal) (eq : q ≡ pick (fine r) t r) where
+            -- and so where no byte may be left
+            pub answered-refused : fine q ≡ false → (a : Record) → a .refusal ≡ q → a .form ≡ emptyForm → a ≡ readForm s
+            answered-refused b a ea ef = read-refused s whole whole-read r end-is t (a .refusal) et (ea ∙ eq) (a .form) (ap fine ea ∙ b) ef
+
+            pub answered-fine : fine q ≡ true → _≡_ {A = Record} (record { refusal = q; form = whole .form }) (readForm s)
+            answered-fine b = read-fine s whole whole-read r end-is t q et eq b

@@ -1,4 +1,4 @@
--- A whole record: the header, the four tables, then "none is 0", then Tail.
+-- A record at the front of bytes: the header, the four tables, then "none is 0"; and one that stands alone, with Tail after these.
 -- Assumes nothing.
 use mathlib.Core.Bool.{Bool, true, false}
 use mathlib.Core.List.{List}
@@ -13,6 +13,7 @@ use Rattle.form.specs.declared.Form.{Form}
 use Rattle.form.specs.Places.{emptyForm, scheduled}
 use Rattle.form.specs.Offsets.{startsAt}
 use Rattle.reader.specs.declared.Reading.{Reading}
+use Rattle.reader.specs.declared.Prefix.{Prefix}
 use Rattle.reader.specs.declared.Record.{Record}
 use Rattle.reader.specs.Tables.{headerOf, table, classStep, nodeStep, edgeStep, startStep}
 
@@ -45,16 +46,29 @@ normalized l n rs = pick (eqb l 0) true (someZero n rs)
 unfoldable pub retimingOffset : Form → ℕ
 retimingOffset f = startsAt (f .header) + 2
 
--- what is refused once the last field is read
-unfoldable pub endOf : List ℕ → Reading → Refusal
-endOf s x =
+-- what is refused of the record at the front, once its last field is read
+unfoldable pub endOf : Reading → Refusal
+endOf x =
     pick (fine (x .next .refusal))
-    (pick (normalized (x .form .header .length) (x .form .header .nodes) (x .form .retiming)) (pick (ltb (x .next .at) (length s)) (Tail (x .next .at)) None) (Retiming (retimingOffset (x .form))))
+    (pick (normalized (x .form .header .length) (x .form .header .nodes) (x .form .retiming)) None (Retiming (retimingOffset (x .form))))
     (x .next .refusal)
+
+-- the form and where it ends where nothing is refused, else the empty form and 0
+unfoldable pub fronted : Refusal → Reading → Prefix
+fronted r x = record { refusal = r; size = pick (fine r) (x .next .at) 0; form = pick (fine r) (x .form) emptyForm }
+
+-- the record at the front: the header, the four tables, then "none is 0"
+unfoldable pub prefixOf : List ℕ → Prefix
+prefixOf s = fronted (endOf (startsRead s)) (startsRead s)
+
+-- what is refused where a record stands alone: what is refused at the front, then the bytes that are left past it
+unfoldable pub tailOf : List ℕ → Prefix → Refusal
+tailOf s p = pick (fine (p .refusal)) (pick (ltb (p .size) (length s)) (Tail (p .size)) None) (p .refusal)
 
 -- the form where nothing is refused, else the empty form
 unfoldable pub answered : Refusal → Form → Record
 answered r f = record { refusal = r; form = pick (fine r) f emptyForm }
 
+-- a record that stands alone
 unfoldable pub readForm : List ℕ → Record
-readForm s = answered (endOf s (startsRead s)) (startsRead s .form)
+readForm s = answered (tailOf s (prefixOf s)) (prefixOf s .form)

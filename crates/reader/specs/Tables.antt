@@ -9,7 +9,6 @@ use Rattle.answer.specs.Refused.{fine}
 use Rattle.form.specs.declared.Form.{Form}
 use Rattle.form.specs.declared.Class.{Class}
 use Rattle.form.specs.declared.Node.{Node}
-use Rattle.form.specs.declared.BodyStep.{BodyStep}
 use Rattle.form.specs.Places.{noClass, noNode, noStep, emptyForm, latencyOf, withCounts, withClass, withNode, withEdge, withStart, withClasses, withNodes, withEdges, withStarts, withHeader}
 use Rattle.field.specs.declared.Cursor.{Cursor}
 use Rattle.field.specs.declared.Taken.{Taken}
@@ -88,13 +87,9 @@ pub record Headed (s : List ℕ) (h : Counts) : Type 0 where
   pub short : h .header .length ≤ 512
   pub near : h .next .at ≤ 11
 
--- a table read, with rows of a width at most: the counts stay, and the cursor moves no further than the rows reach
+-- a table read, with rows of a width at most: the cursor moves no further than the rows reach
 pub record Stage (step : ℕ → Reading → Reading) (n : ℕ) (x : Reading) (width : ℕ) (r : Reading) : Type 0 where
   pub is : r ≡ table step n 0 x
-  pub classes : r .form .header .classes ≡ x .form .header .classes
-  pub nodes : r .form .header .nodes ≡ x .form .header .nodes
-  pub edges : r .form .header .edges ≡ x .form .header .edges
-  pub length : r .form .header .length ≡ x .form .header .length
   pub near : r .next .at ≤ x .next .at + width * n
 
 -- each table, read into whatever form holds the counts: from an empty one at the cursor to what comes back

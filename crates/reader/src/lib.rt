@@ -9,7 +9,7 @@ ghost use Rattle.answer.specs.declared.Refusal.the-variants.{None, Retiming, Ta
 ghost use Rattle.form.specs.Places.{noClass, noStep, emptyForm, scheduledOf, withStarts, withHeader};
 ghost use Rattle.form.specs.Offsets.{startsAt};
 ghost use Rattle.reader.specs.Tables.{Headed, ClassesRead, NodesRead, EdgesRead, StartsRead};
-ghost use Rattle.reader.specs.Reading.{someZero, normalized, endOf, readForm};
+ghost use Rattle.reader.specs.Reading.{someZero, normalized, endOf, prefixOf, readForm};
 use answer::Refusal;
 use field::Cursor;
 use field::Kind;
@@ -54,6 +54,13 @@ pub struct StartTable {
     pub start: [BodyStep; 64],
     pub retiming: [u8; 64],
     pub next: Cursor,
+}
+
+// What reading the record at the front answers: its form and where it ends, or the refusal, the empty form and 0.
+pub struct Prefix {
+    pub refusal: Refusal,
+    pub size: usize,
+    pub form: Form,
 }
 
 // What reading a record answers: its form, or the refusal and the empty form.
@@ -285,27 +292,26 @@ fn none_is_zero(counts: Counts, retiming: [u8; 64]) -> Refusal
     Refusal::Retiming(starts_at + 2)
 }
 
-// No byte is left.
-fn tail(s: &[u8], at: usize) -> Refusal
-    requires { ⌜ at ≤ 60000 ⌝ }
-    ensures { λ r. ⌜ r ≡ pick (ltb at (length (now (s .entry)))) (Tail at) None ⌝ }
+// After the last field: a schedule has a retiming 0.
+fn end_of(counts: Counts, retiming: [u8; 64], next: Cursor) -> Refusal
+    requires { ⌜ counts .header .nodes ≤ 64 ⌝ }
+    ensures { λ r. ⌜ r ≡ endOf (record { form = withStarts (withHeader emptyForm (counts .header)) (replicate 64 noStep) retiming; next = next }) ⌝ }
 {
+    let refusal = next.refusal;
+    let unnormalized = none_is_zero(counts, retiming);
+    first_of(refusal, unnormalized)
+}
+
+// No byte is left.
+fn tail(s: &[u8], next: Cursor) -> Refusal
+    requires { ⌜ next .at ≤ 60000 ⌝ }
+    ensures { λ r. ⌜ r ≡ pick (ltb (next .at) (length (now (s .entry)))) (Tail (next .at)) None ⌝ }
+{
+    let at = next.at;
     if at < s.len() {
         return Refusal::Tail(at as u32);
     }
     Refusal::None
-}
-
-// After the last field: a schedule has a retiming 0, and no byte is left.
-fn end_of(s: &[u8], counts: Counts, retiming: [u8; 64], next: Cursor) -> Refusal
-    requires { ⌜ (counts .header .nodes ≤ 64) × (next .at ≤ 60000) ⌝ }
-    ensures { λ r. ⌜ r ≡ endOf (now (s .entry)) (record { form = withStarts (withHeader emptyForm (counts .header)) (replicate 64 noStep) retiming; next = next }) ⌝ }
-{
-    let refusal = next.refusal;
-    let unnormalized = none_is_zero(counts, retiming);
-    let left = tail(s, next.at);
-    let end = first_of(unnormalized, left);
-    first_of(refusal, end)
 }
 
 // How many nodes have a start and a retiming.
@@ -318,6 +324,56 @@ fn scheduled_nodes(length: u16, nodes: u8) -> usize
     nodes as usize
 }
 
+// Nothing is at the front: the refusal, with the empty form.
+fn unread(refusal: Refusal) -> Prefix
+    ensures { λ r. ⌜ (r .refusal ≡ refusal) × (r .size ≡ 0) × (r .form ≡ emptyForm) ⌝ }
+{
+    Prefix {
+        refusal,
+        size: 0,
+        form: Form::empty(),
+    }
+}
+
+// The record at the front of the lent bytes, or the first refusal; what is left past it is not looked at.
+pub fn read_prefix(s: &[u8]) -> Prefix
+    ensures { λ r. ⌜ r ≡ prefixOf (now (s .entry)) ⌝ }
+{
+    let counts = header(s);
+    let board = classes(s, counts.next, counts.header.classes);
+    let class = board.class;
+    let operations = nodes(s, board.next, counts.header.classes, counts.header.nodes);
+    let node = operations.node;
+    let graph = edges(s, operations.next, counts.header.nodes, counts.header.edges);
+    let scheduled = scheduled_nodes(counts.header.length, counts.header.nodes);
+    let schedule = starts(s, graph.next, counts.header.length, class, node, scheduled);
+    let retiming = schedule.retiming;
+    let refusal = end_of(counts, retiming, schedule.next);
+    if !refusal.is_fine() {
+        return unread(refusal);
+    }
+    let header = counts.header;
+    let from = graph.from;
+    let to = graph.to;
+    let delays = graph.delays;
+    let start = schedule.start;
+    let end = schedule.next;
+    Prefix {
+        refusal,
+        size: end.at,
+        form: Form {
+            header,
+            class,
+            node,
+            from,
+            to,
+            delays,
+            start,
+            retiming,
+        },
+    }
+}
+
 // A refused record, with the empty form.
 fn refused(refusal: Refusal) -> Record
     ensures { λ r. ⌜ (r .refusal ≡ refusal) × (r .form ≡ emptyForm) ⌝ }
@@ -328,7 +384,7 @@ fn refused(refusal: Refusal) -> Record
     }
 }
 
-// The record in the lent bytes, or the first refusal.
+// The record in the lent bytes, or the first refusal. Its tables go straight into the answer: a form out of `read_prefix` would be copied.
 pub fn read(s: &[u8]) -> Record
     ensures { λ r. ⌜ r ≡ readForm (now (s .entry)) ⌝ }
 {
@@ -341,7 +397,9 @@ pub fn read(s: &[u8]) -> Record
     let scheduled = scheduled_nodes(counts.header.length, counts.header.nodes);
     let schedule = starts(s, graph.next, counts.header.length, class, node, scheduled);
     let retiming = schedule.retiming;
-    let refusal = end_of(s, counts, retiming, schedule.next);
+    let ended = end_of(counts, retiming, schedule.next);
+    let left = tail(s, schedule.next);
+    let refusal = first_of(ended, left);
     if !refusal.is_fine() {
         return refused(refusal);
     }

@@ -15,9 +15,10 @@ use Rattle.field.specs.declared.Taken.{Taken}
 use Rattle.field.specs.Number.{numberAt}
 use Rattle.field.specs.Taking.{wrongAt, onward, taken}
 use Rattle.reader.specs.declared.Reading.{Reading}
+use Rattle.reader.specs.declared.Prefix.{Prefix}
 use Rattle.rows.specs.Rows.{classAt, nodeAt, edgeAt, startAt}
 use Rattle.reader.specs.Tables.{headerOf, table, classStep, nodeStep, edgeStep, startStep}
-use Rattle.reader.specs.Reading.{classesRead, nodesRead, edgesRead, startsRead, normalized, endOf, answered, readForm}
+use Rattle.reader.specs.Reading.{classesRead, nodesRead, edgesRead, startsRead, normalized, endOf, fronted, prefixOf, tailOf, answered, readForm}
 
 abbrev Early : Cursor → Type 0
 Early c = numberOf (c .refusal) ≤ 10
@@ -80,12 +81,18 @@ module _ (s : List ℕ) where
       (table-early (edgeStep s) edge-early _ 0 (nodesRead s)
       (table-early (nodeStep s) node-early _ 0 (classesRead s) (table-early (classStep s) class-early _ 0 (headerOf s) header-early)))
 
-  pub read-early : numberOf (readForm s .refusal) ≤ 10
-  unfolding readForm answered endOf
-  read-early =
+  pub prefix-early : numberOf (prefixOf s .refusal) ≤ 10
+  unfolding prefixOf fronted endOf
+  prefix-early =
       let x : Reading = startsRead s in
       let P : Refusal → Type 0 = λ r. numberOf r ≤ 10 in
       pick-ind P (fine (x .next .refusal)) _ _
-      (λ f. pick-ind P (normalized (x .form .header .length) (x .form .header .nodes) (x .form .retiming)) _ _
-      (λ n. pick-ind P (ltb (x .next .at) (length s)) _ _ (λ l. omega arith) (λ l. omega arith)) (λ n. omega arith))
+      (λ f. pick-ind P (normalized (x .form .header .length) (x .form .header .nodes) (x .form .retiming)) _ _ (λ n. omega arith) (λ n. omega arith))
       (λ f. starts-early)
+
+  pub read-early : numberOf (readForm s .refusal) ≤ 10
+  unfolding readForm answered tailOf
+  read-early =
+      let p : Prefix = prefixOf s in
+      let P : Refusal → Type 0 = λ r. numberOf r ≤ 10 in
+      pick-ind P (fine (p .refusal)) _ _ (λ f. pick-ind P (ltb (p .size) (length s)) _ _ (λ l. omega arith) (λ l. omega arith)) (λ f. prefix-early)

@@ -8,7 +8,7 @@ use lib.ListN.{length, take, drop, length-append}
 use lib.Seq.{take-at}
 use Rattle.form.specs.declared.Form.{Form}
 use Rattle.form.specs.Places.{classOf, nodeOf, edgeOf, startOf, retimingOf, scheduled}
-use Rattle.form.specs.Offsets.{nodesAt, edgesAt, startsAt}
+use Rattle.form.specs.Offsets.{classesAt, nodesAt, edgesAt, startsAt}
 use Rattle.writer.specs.Layout.{classBytes, nodeBytes, edgeBytes, startBytes, headerBytes, classRows, nodeRows, edgeRows, startRows, layout}
 use Rattle.record.specs.Held.{CountsFit}
 use Rattle.record.specs.Rows.{rows-slice}
@@ -22,7 +22,7 @@ module _ (f : Form) where
 
   module _ (h : CountsFit f) where
     -- class i is a slice of the layout
-    pub class-slice : (i : ℕ) → i < f .header .classes → take 3 (drop (11 + 3 * i) (layout f)) ≡ classBytes (classOf f i)
+    pub class-slice : (i : ℕ) → i < f .header .classes → take 3 (drop (classesAt + 3 * i) (layout f)) ≡ classBytes (classOf f i)
     unfolding layout classRows
     class-slice i l =
         rows-slice (λ j. classBytes (classOf f j)) 3 (λ j. class-width (classOf f j)) (headerBytes f) _ 11 _ i (header-width f) (omega arith)

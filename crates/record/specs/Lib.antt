@@ -11,6 +11,7 @@ pub mod FirstOf
 pub mod Sofar
 pub mod ReadAll
 pub mod Least
+pub mod Prefix
 pub mod Read
 pub mod ReadHeld
 pub mod Walks

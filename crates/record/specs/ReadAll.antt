@@ -1,18 +1,16 @@
--- A whole record, table after table: everything read so far, or the refusal of the field that stopped it.
+-- The record at the front, table after table: everything read so far, or the refusal of the field that stopped it.
 -- Assumes nothing.
 use mathlib.Core.Path.{_≡_, refl, ap₂}
 use mathlib.Core.Bool.{true, false}
 use mathlib.Core.List.{List}
-use Prim.Native.Nat.{ℕ, _+_, _*_, _≤_, _<_}
+use Prim.Native.Nat.{ℕ, _+_, _*_, _<_}
 use native.Mathlib.Omega.{arith}
-use borrow.Author.Tests.{ltb-false}
-use lib.Dec.{ltb}
-use lib.ListN.{length}
 use Rattle.lists.specs.Pick.{pick-ind, both-ways}
 use Rattle.answer.specs.Refused.{fine}
 use Rattle.answer.specs.declared.Refusal.{Refusal}
 use Rattle.answer.specs.declared.Refusal.the-variants.{None}
 use Rattle.form.specs.Places.{scheduledOf}
+use Rattle.form.specs.Offsets.{classesAt}
 use Rattle.field.specs.Number.{Bytes}
 use Rattle.reader.specs.declared.Reading.{Reading}
 use Rattle.reader.specs.Tables.{headerOf, classStep, nodeStep, edgeStep, startStep}
@@ -27,7 +25,7 @@ headStarts s = scheduledOf (headLength s) (headNodes s)
 
 -- what is read of each table after so many of its rows
 abbrev pub ClassesSofar : List ℕ → ℕ → Reading → Type 0
-ClassesSofar s i = ReadSofar s i 0 0 0 (11 + 3 * i)
+ClassesSofar s i = ReadSofar s i 0 0 0 (classesAt + 3 * i)
 
 abbrev pub NodesSofar : List ℕ → ℕ → Reading → Type 0
 NodesSofar s v = ReadSofar s (headClasses s) v 0 0 (nodesFrom s + 6 * v)
@@ -59,7 +57,7 @@ module _ (s : List ℕ) (b : Bytes s) (Q : Refusal → Type 0)
   nodes-run =
       runs-on (nodeStep s) (classesRead s .form .header .nodes) 0 (classesRead s) classes-run
       (λ f p.
-      table-runs (nodeStep s) (NodesSofar s) Q (headNodes s) (λ v x l q. record { on = node-on s b v x l q; off = node-off v x l q }) (classesRead s .form .header .nodes) 0 (classesRead s) (omega (arith, p .nodes)) f
+      table-runs (nodeStep s) (NodesSofar s) Q (headNodes s) (λ v x l q. record { on = node-on s b v x l q; off = node-off v x l q }) (classesRead s .form .header .nodes) 0 (classesRead s) (omega (arith, p .counts .nodes)) f
       (moved s (headClasses s) 0 0 0 _ (nodesFrom s + 6 * 0) (classesRead s) (omega arith) p))
 
   edges-run : Runs (EdgesSofar s (headEdges s)) Q (edgesRead s)
@@ -67,7 +65,7 @@ module _ (s : List ℕ) (b : Bytes s) (Q : Refusal → Type 0)
   edges-run =
       runs-on (edgeStep s) (nodesRead s .form .header .edges) 0 (nodesRead s) nodes-run
       (λ f p.
-      table-runs (edgeStep s) (EdgesSofar s) Q (headEdges s) (λ e x l q. record { on = edge-on s b e x l q; off = edge-off e x l q }) (nodesRead s .form .header .edges) 0 (nodesRead s) (omega (arith, p .edges)) f
+      table-runs (edgeStep s) (EdgesSofar s) Q (headEdges s) (λ e x l q. record { on = edge-on s b e x l q; off = edge-off e x l q }) (nodesRead s .form .header .edges) 0 (nodesRead s) (omega (arith, p .counts .edges)) f
       (moved s (headClasses s) (headNodes s) 0 0 _ (edgesFrom s + 3 * 0) (nodesRead s) (omega arith) p))
 
   -- a whole record: all of its rows are read, or Q of the refusal
@@ -78,24 +76,20 @@ module _ (s : List ℕ) (b : Bytes s) (Q : Refusal → Type 0)
       (λ f p.
       table-runs (startStep s) (StartsSofar s) Q (headStarts s)
       (λ v x l q. record { on = start-on s b v x (omega (arith, scheduled-le (headLength s) (headNodes s))) q; off = start-off v x l q })
-      (scheduledOf (edgesRead s .form .header .length) (edgesRead s .form .header .nodes)) 0 (edgesRead s) (omega (arith, ap₂ scheduledOf (p .last) (p .nodes))) f
+      (scheduledOf (edgesRead s .form .header .length) (edgesRead s .form .header .nodes)) 0 (edgesRead s) (omega (arith, ap₂ scheduledOf (p .counts .last) (p .counts .nodes))) f
       (moved s (headClasses s) (headNodes s) (headEdges s) 0 _ (startsFrom s + 3 * 0) (edgesRead s) (omega arith) p))
 
 -- what a fine end tells
-pub record Ended (s : List ℕ) (x : Reading) (r : Refusal) : Type 0 where
+pub record Ended (x : Reading) (r : Refusal) : Type 0 where
   pub begun : fine (x .next .refusal) ≡ true
   pub normal : normalized (x .form .header .length) (x .form .header .nodes) (x .form .retiming) ≡ true
-  pub whole : length s ≤ x .next .at
   pub none : r ≡ None
 
--- a fine end: nothing is refused, a retiming is 0 and no byte is left
-pub ended : (s : List ℕ) (x : Reading) → fine (endOf s x) ≡ true → Ended s x (endOf s x)
+-- a fine end: nothing is refused, and a retiming is 0
+pub ended : (x : Reading) → fine (endOf x) ≡ true → Ended x (endOf x)
 unfolding endOf fine
-ended s x =
-    let P : Refusal → Type 0 = λ r. fine r ≡ true → Ended s x r in
+ended x =
+    let P : Refusal → Type 0 = λ r. fine r ≡ true → Ended x r in
     pick-ind P (fine (x .next .refusal)) _ _
-    (λ f. pick-ind P (normalized (x .form .header .length) (x .form .header .nodes) (x .form .retiming)) _ _
-    (λ n. pick-ind P (ltb (x .next .at) (length s)) _ _ (λ l e. both-ways e refl)
-    (λ l e. record { begun = f; normal = n; whole = ltb-false (x .next .at) (length s) l; none = refl }))
-    (λ n e. both-ways e refl))
+    (λ f. pick-ind P (normalized (x .form .header .length) (x .form .header .nodes) (x .form .retiming)) _ _ (λ n e. record { begun = f; normal = n; none = refl }) (λ n e. both-ways e refl))
     (λ f e. both-ways e f)

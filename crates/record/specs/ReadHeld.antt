@@ -10,11 +10,12 @@ use Rattle.answer.specs.Refused.{fine}
 use Rattle.form.specs.Places.{noClass, noNode, classOf, nodeOf, edgeOf}
 use Rattle.field.specs.Number.{Bytes}
 use Rattle.reader.specs.declared.Reading.{Reading}
-use Rattle.reader.specs.Reading.{startsRead, readForm}
+use Rattle.reader.specs.Reading.{startsRead, prefixOf, readForm}
 use Rattle.record.specs.Held.{HeldClass, HeldNode, HeldEdge, Held}
 use Rattle.record.specs.Sofar.{headClasses, headNodes, headEdges, noEdge, noSlot, slotOf}
 use Rattle.record.specs.ReadAll.{headStarts, StartsSofar}
-use Rattle.record.specs.Read.{read-form, read-whole}
+use Rattle.record.specs.Prefix.{prefix-read, prefix-whole}
+use Rattle.record.specs.Read.{read-alone, read-form}
 
 -- what holds of an unused place and of each of the first n holds of every place
 everywhere : {A : Type 0} (P : A → Type 0) (none : A) (n : ℕ) (cell : ℕ → A) → P none → ((i : ℕ) → i < n → P (cell i)) → ((i : ℕ) → n ≤ i → cell i ≡ none)
@@ -29,11 +30,20 @@ whole-held s x p =
     (λ v l. let g = p .start .good v l in omega (arith, p .head .last))
     (p .start .rest) in
     record {
-      sized = p .sized;
-      classes = omega (arith, p .classes, p .head .classes);
-      nodes = omega (arith, p .nodes, p .head .nodes);
-      edges = omega (arith, p .edges, p .head .edges);
-      length = omega (arith, p .last, p .head .last);
+      sized =
+          record {
+            class = p .class .sized;
+            node = p .node .sized;
+            from = p .edge .sized .0;
+            to = p .edge .sized .1;
+            delays = p .edge .sized .2;
+            start = p .start .sized .0;
+            retiming = p .start .sized .1;
+          };
+      classes = omega (arith, p .counts .classes, p .head .classes);
+      nodes = omega (arith, p .counts .nodes, p .head .nodes);
+      edges = omega (arith, p .counts .edges, p .head .edges);
+      length = omega (arith, p .counts .last, p .head .last);
       class = λ i l.
           everywhere HeldClass noClass (headClasses s) (classOf (x .form)) (record { latency = omega arith; units = omega arith; pipelined = omega arith })
           (λ j m. let g = p .class .good j m in record { latency = omega arith; units = omega arith; pipelined = omega arith })
@@ -50,6 +60,10 @@ whole-held s x p =
       retiming = λ v l. slot v .1;
     }
 
+-- the form at the front is held
+pub prefix-held : (s : List ℕ) → Bytes s → fine (prefixOf s .refusal) ≡ true → Held (prefixOf s .form)
+prefix-held s b f = rw (prefix-read s b f) (whole-held s (startsRead s) (prefix-whole s b f))
+
 -- a form that is read is held
 pub read-held : (s : List ℕ) → Bytes s → fine (readForm s .refusal) ≡ true → Held (readForm s .form)
-read-held s b f = rw (read-form s b f) (whole-held s (startsRead s) (read-whole s b f))
+read-held s b f = rw (read-form s f) (prefix-held s b (read-alone s f .begun))

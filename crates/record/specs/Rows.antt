@@ -1,13 +1,13 @@
 -- Rows one after the other: their length, their bytes, and each as a slice of the whole.
 -- Assumes nothing.
-use mathlib.Core.Path.{_≡_, sym}
+use mathlib.Core.Path.{_≡_, sym, ap}
 use mathlib.Core.List.{List, [], _∷_, _++_, append-assoc}
 use mathlib.Core.Logic.{⊎-elim}
-use Prim.Native.Nat.{ℕ, zero, suc, _+_, _*_, _/_, _<_}
+use Prim.Native.Nat.{ℕ, zero, suc, _+_, _*_, _/_, _≤_, _<_}
 use native.Mathlib.Nat.{mul-suc, mul-zero, not-suc-le-zero, eq-or-lt-of-le, le-of-suc-le-suc}
 use native.Mathlib.Omega.{arith}
-use lib.ListN.{length, take, drop, length-append}
-use lib.Seq.{take-add, drop-drop, take-at, drop-at}
+use lib.ListN.{length, take, drop, length-append, length-take, length-drop}
+use lib.Seq.{take-add, drop-drop, take-at, drop-at, take-append-le, drop-append-le}
 use Rattle.laid.specs.Rows.{rows}
 use Rattle.field.specs.Number.{Bytes, bytesOf}
 
@@ -40,6 +40,16 @@ bytes-of (suc width) x (suc i) = bytes-of width (x / 256) i
 -- what stands between a beginning and an end is a slice of the whole
 pub slice-at : (pre part post : List ℕ) (at width : ℕ) → length pre ≡ at → length part ≡ width → take width (drop at (pre ++ (part ++ post))) ≡ part
 slice-at pre part post at width a w = rw (drop-at pre (part ++ post) at a) (take-at part post width w)
+
+-- a slice of its whole size has room in the record
+pub slice-room : (s part : List ℕ) (at size : ℕ) → take size (drop at s) ≡ part → length part ≡ size → 0 < size → at + size ≤ length s
+slice-room s part at size e n z = omega (arith, simp (length-take, length-drop) at (ap length e))
+
+-- a slice stays where it is, whatever is put behind the whole
+pub slice-front : (s rest part : List ℕ) (at size : ℕ) → take size (drop at s) ≡ part → length part ≡ size → 0 < size → take size (drop at (s ++ rest)) ≡ part
+slice-front s rest part at size e n z =
+    let room : at + size ≤ length s = slice-room s part at size e n z in
+    rw (drop-append-le at s rest (omega arith), take-append-le size (drop at s) rest (rw length-drop (omega arith))) e
 
 module _ (row : ℕ → List ℕ) where
   -- rows of bytes are bytes

@@ -9,9 +9,12 @@ use lib.ListN.{length, getD, length-set, length-replicate}
 use lib.Seq.{getD-set-same, getD-set-other}
 use Rattle.answer.specs.Refused.{fine}
 use Rattle.form.specs.declared.Form.{Form}
+use Rattle.form.specs.declared.Header.{Header}
+use Rattle.form.specs.declared.Class.{Class}
+use Rattle.form.specs.declared.Node.{Node}
 use Rattle.form.specs.declared.Edge.{Edge}
 use Rattle.form.specs.Places.{noClass, noNode, noStep, emptyForm, classOf, nodeOf, edgeOf, latencyOf}
-use Rattle.form.specs.Offsets.{nodesAt, edgesAt, startsAt}
+use Rattle.form.specs.Offsets.{classesAt, nodesAt, edgesAt, startsAt}
 use Rattle.form.specs.Ranges.{GoodClass, GoodEdge}
 use Rattle.field.specs.Number.{Bytes}
 use Rattle.field.specs.Taking.{onward}
@@ -19,9 +22,8 @@ use Rattle.reader.specs.declared.Reading.{Reading}
 use Rattle.rows.specs.Rows.{classAt, nodeAt, edgeAt, startAt}
 use Rattle.reader.specs.Tables.{headerOf, classStep, nodeStep, edgeStep, startStep}
 use Rattle.writer.specs.Layout.{classBytes, nodeBytes, edgeBytes}
-use Rattle.record.specs.Held.{Sized}
 use Rattle.record.specs.FirstOf.{unused}
-use Rattle.record.specs.Cells.{Cells, cells-none, cells-put}
+use Rattle.record.specs.Cells.{Cells, cells-none, cells-put, list-put}
 use Rattle.record.specs.ReadHeader.{Head, header-read}
 use Rattle.record.specs.ReadRows.{GoodNode, Slot, slotBytes, GoodSlot, RowRead, class-row, node-row, edge-row, start-row}
 
@@ -59,19 +61,28 @@ noSlot = record { start = noStep; retiming = 0 }
 abbrev pub slotOf : Form → ℕ → Slot
 slotOf f v = record { start = getD (f .start) v noStep; retiming = getD (f .retiming) v 0 }
 
+-- a header that is the record's
+pub record SameCounts (s : List ℕ) (h : Header) : Type 0 where
+  pub classes : h .classes ≡ headClasses s
+  pub nodes : h .nodes ≡ headNodes s
+  pub edges : h .edges ≡ headEdges s
+  pub last : h .length ≡ headLength s
+
 -- so many classes, nodes, edges and starts are read, up to an offset
 pub record ReadSofar (s : List ℕ) (c n e t at : ℕ) (x : Reading) : Type 0 where
   pub head : Head s
-  pub sized : Sized (x .form)
   pub next : x .next ≡ onward at
-  pub classes : x .form .header .classes ≡ headClasses s
-  pub nodes : x .form .header .nodes ≡ headNodes s
-  pub edges : x .form .header .edges ≡ headEdges s
-  pub last : x .form .header .length ≡ headLength s
-  pub class : Cells s 11 3 classBytes (λ i. GoodClass) noClass c (classOf (x .form))
-  pub node : Cells s (nodesFrom s) 6 nodeBytes (λ v. GoodNode (headClasses s)) noNode n (nodeOf (x .form))
-  pub edge : Cells s (edgesFrom s) 3 edgeBytes (λ i. GoodEdge (headNodes s)) noEdge e (edgeOf (x .form))
-  pub start : Cells s (startsFrom s) 3 slotBytes (λ v. GoodSlot (headLength s) (latencyOf (x .form) v)) noSlot t (slotOf (x .form))
+  pub counts : SameCounts s (x .form .header)
+  pub class : Cells s 11 3 classBytes (λ i. GoodClass) noClass (length (x .form .class) ≡ 4) c (classOf (x .form))
+  pub node : Cells s (nodesFrom s) 6 nodeBytes (λ v. GoodNode (headClasses s)) noNode (length (x .form .node) ≡ 64) n (nodeOf (x .form))
+  pub edge :
+      Cells s (edgesFrom s) 3 edgeBytes (λ i. GoodEdge (headNodes s)) noEdge
+      ((length (x .form .from) ≡ 256) × (length (x .form .to) ≡ 256) × (length (x .form .delays) ≡ 256))
+      e (edgeOf (x .form))
+  pub start :
+      Cells s (startsFrom s) 3 slotBytes (λ v. GoodSlot (headLength s) (latencyOf (x .form) v)) noSlot
+      ((length (x .form .start) ≡ 64) × (length (x .form .retiming) ≡ 64))
+      t (slotOf (x .form))
 
 -- the offset may be written in another way
 pub moved : (s : List ℕ) (c n e t at to : ℕ) (x : Reading) → at ≡ to → ReadSofar s c n e t at x → ReadSofar s c n e t to x
@@ -85,61 +96,34 @@ module _ (s : List ℕ) (b : Bytes s) where
       let z : ℕ = 0 in
       record {
         head = header-read s b f;
-        sized =
-            record {
-              class = length-replicate 4 noClass;
-              node = length-replicate 64 noNode;
-              from = length-replicate 256 z;
-              to = length-replicate 256 z;
-              delays = length-replicate 256 z;
-              start = length-replicate 64 noStep;
-              retiming = length-replicate 64 z;
-            };
         next = header-read s b f .next;
-        classes = refl;
-        nodes = refl;
-        edges = refl;
-        last = refl;
-        class = cells-none s 11 3 classBytes _ noClass _ (λ i. unused 4 i noClass);
-        node = cells-none s (nodesFrom s) 6 nodeBytes _ noNode _ (λ v. unused 64 v noNode);
-        edge = cells-none s (edgesFrom s) 3 edgeBytes _ noEdge _ (λ e j. record { from = unused 256 e z j; to = unused 256 e z j; delays = unused 256 e z j });
-        start = cells-none s (startsFrom s) 3 slotBytes _ noSlot _ (λ v j. record { start = unused 64 v noStep j; retiming = unused 64 v z j });
+        counts = record { classes = refl; nodes = refl; edges = refl; last = refl };
+        class = cells-none s 11 3 classBytes _ noClass (length-replicate 4 noClass) _ (λ i. unused 4 i noClass);
+        node = cells-none s (nodesFrom s) 6 nodeBytes _ noNode (length-replicate 64 noNode) _ (λ v. unused 64 v noNode);
+        edge =
+            cells-none s (edgesFrom s) 3 edgeBytes _ noEdge (length-replicate 256 z, length-replicate 256 z, length-replicate 256 z) _
+            (λ e j. record { from = unused 256 e z j; to = unused 256 e z j; delays = unused 256 e z j });
+        start =
+            cells-none s (startsFrom s) 3 slotBytes _ noSlot (length-replicate 64 noStep, length-replicate 64 z) _
+            (λ v j. record { start = unused 64 v noStep j; retiming = unused 64 v z j });
       }
 
   -- one class more
-  pub class-on : (i : ℕ) (x : Reading) → i < headClasses s → ReadSofar s i 0 0 0 (11 + 3 * i) x → fine (classStep s i x .next .refusal) ≡ true
-      → ReadSofar s (suc i) 0 0 0 (11 + 3 * suc i) (classStep s i x)
+  pub class-on : (i : ℕ) (x : Reading) → i < headClasses s → ReadSofar s i 0 0 0 (classesAt + 3 * i) x → fine (classStep s i x .next .refusal) ≡ true
+      → ReadSofar s (suc i) 0 0 0 (classesAt + 3 * suc i) (classStep s i x)
   unfolding classStep
   class-on i x l p f =
-      let r : RowRead s (11 + 3 * i) (11 + 3 * suc i) 3 classBytes GoodClass (classAt s (x .next) .next) (classAt s (x .next) .class) =
-      class-row s b (x .next) (11 + 3 * i) (11 + 3 * suc i) (p .next) (omega arith) f in
-      let k : i < length (x .form .class) = omega (arith, p .sized .class, p .head .classes) in
+      let new : Class = classAt s (x .next) .class in
+      let r : RowRead s (classesAt + 3 * i) (classesAt + 3 * suc i) 3 classBytes GoodClass (classAt s (x .next) .next) new =
+      class-row s b (x .next) (classesAt + 3 * i) (classesAt + 3 * suc i) (p .next) (omega arith) f in
       record {
         head = p .head;
-        sized =
-            record {
-              class = length-set (x .form .class) i _ ∙ p .sized .class;
-              node = p .sized .node;
-              from = p .sized .from;
-              to = p .sized .to;
-              delays = p .sized .delays;
-              start = p .sized .start;
-              retiming = p .sized .retiming;
-            };
         next = r .next;
-        classes = p .classes;
-        nodes = p .nodes;
-        edges = p .edges;
-        last = p .last;
-        class =
-            cells-put s 11 3 classBytes (λ j. GoodClass) noClass (p .class) _ (classAt s (x .next) .class)
-            (getD-set-same (x .form .class) i _ noClass k)
-            (λ j ne. getD-set-other (x .form .class) i j _ noClass ne)
-            (r .laid)
-            (r .good);
+        counts = p .counts;
+        class = list-put s 11 3 classBytes (λ j. GoodClass) noClass 4 i (x .form .class) (p .class) (omega (arith, p .head .classes)) new (r .laid) (r .good);
         node = p .node;
         edge = p .edge;
-        start = cells-none s (startsFrom s) 3 slotBytes _ noSlot _ (λ v. p .start .rest v (omega arith));
+        start = cells-none s (startsFrom s) 3 slotBytes _ noSlot (p .start .sized) _ (λ v. p .start .rest v (omega arith));
       }
 
   -- one node more
@@ -150,35 +134,19 @@ module _ (s : List ℕ) (b : Bytes s) where
       let at : ℕ = nodesFrom s + 6 * v in
       let to : ℕ = nodesFrom s + 6 * suc v in
       let classes : ℕ = x .form .header .classes in
-      let r : RowRead s at to 6 nodeBytes (GoodNode classes) (nodeAt s (x .next) classes .next) (nodeAt s (x .next) classes .node) =
-      node-row s b (x .next) at to (p .next) classes (omega (arith, p .classes, p .head .classes)) (omega arith) f in
-      let k : v < length (x .form .node) = omega (arith, p .sized .node, p .head .nodes) in
+      let new : Node = nodeAt s (x .next) classes .node in
+      let r : RowRead s at to 6 nodeBytes (GoodNode classes) (nodeAt s (x .next) classes .next) new =
+      node-row s b (x .next) at to (p .next) classes (omega (arith, p .counts .classes, p .head .classes)) (omega arith) f in
       record {
         head = p .head;
-        sized =
-            record {
-              class = p .sized .class;
-              node = length-set (x .form .node) v _ ∙ p .sized .node;
-              from = p .sized .from;
-              to = p .sized .to;
-              delays = p .sized .delays;
-              start = p .sized .start;
-              retiming = p .sized .retiming;
-            };
         next = r .next;
-        classes = p .classes;
-        nodes = p .nodes;
-        edges = p .edges;
-        last = p .last;
+        counts = p .counts;
         class = p .class;
         node =
-            cells-put s (nodesFrom s) 6 nodeBytes (λ j. GoodNode (headClasses s)) noNode (p .node) _ (nodeAt s (x .next) classes .node)
-            (getD-set-same (x .form .node) v _ noNode k)
-            (λ j ne. getD-set-other (x .form .node) v j _ noNode ne)
-            (r .laid)
-            (subst (λ (c : ℕ). GoodNode c (nodeAt s (x .next) classes .node)) (p .classes) (r .good));
+            list-put s (nodesFrom s) 6 nodeBytes (λ j. GoodNode (headClasses s)) noNode 64 v (x .form .node) (p .node) (omega (arith, p .head .nodes)) new (r .laid)
+            (subst (λ (c : ℕ). GoodNode c new) (p .counts .classes) (r .good));
         edge = p .edge;
-        start = cells-none s (startsFrom s) 3 slotBytes _ noSlot _ (λ j. p .start .rest j (omega arith));
+        start = cells-none s (startsFrom s) 3 slotBytes _ noSlot (p .start .sized) _ (λ j. p .start .rest j (omega arith));
       }
 
   -- one edge more
@@ -191,33 +159,23 @@ module _ (s : List ℕ) (b : Bytes s) where
       let nodes : ℕ = x .form .header .nodes in
       let new : Edge = edgeAt s (x .next) nodes .edge in
       let r : RowRead s at to 3 edgeBytes (GoodEdge nodes) (edgeAt s (x .next) nodes .next) new =
-      edge-row s b (x .next) at to (p .next) nodes (omega (arith, p .nodes, p .head .nodes)) (omega arith) f in
+      edge-row s b (x .next) at to (p .next) nodes (omega (arith, p .counts .nodes, p .head .nodes)) (omega arith) f in
+      let z : (length (x .form .from) ≡ 256) × (length (x .form .to) ≡ 256) × (length (x .form .delays) ≡ 256) = p .edge .sized in
       let k : (xs : List ℕ) → length xs ≡ 256 → e < length xs = λ xs q. omega (arith, p .head .edges) in
       record {
         head = p .head;
-        sized =
-            record {
-              class = p .sized .class;
-              node = p .sized .node;
-              from = length-set (x .form .from) e _ ∙ p .sized .from;
-              to = length-set (x .form .to) e _ ∙ p .sized .to;
-              delays = length-set (x .form .delays) e _ ∙ p .sized .delays;
-              start = p .sized .start;
-              retiming = p .sized .retiming;
-            };
         next = r .next;
-        classes = p .classes;
-        nodes = p .nodes;
-        edges = p .edges;
-        last = p .last;
+        counts = p .counts;
         class = p .class;
         node = p .node;
         edge =
-            cells-put s (edgesFrom s) 3 edgeBytes (λ j. GoodEdge (headNodes s)) noEdge (p .edge) _ new
+            cells-put s (edgesFrom s) 3 edgeBytes (λ j. GoodEdge (headNodes s)) noEdge (p .edge)
+            (length-set (x .form .from) e _ ∙ z .0, length-set (x .form .to) e _ ∙ z .1, length-set (x .form .delays) e _ ∙ z .2)
+            _ new
             (λ i. record {
-              from = getD-set-same (x .form .from) e (new .from) 0 (k (x .form .from) (p .sized .from)) i;
-              to = getD-set-same (x .form .to) e (new .to) 0 (k (x .form .to) (p .sized .to)) i;
-              delays = getD-set-same (x .form .delays) e (new .delays) 0 (k (x .form .delays) (p .sized .delays)) i;
+              from = getD-set-same (x .form .from) e (new .from) 0 (k (x .form .from) (z .0)) i;
+              to = getD-set-same (x .form .to) e (new .to) 0 (k (x .form .to) (z .1)) i;
+              delays = getD-set-same (x .form .delays) e (new .delays) 0 (k (x .form .delays) (z .2)) i;
             })
             (λ j ne i. record {
               from = getD-set-other (x .form .from) e j (new .from) 0 ne i;
@@ -225,7 +183,7 @@ module _ (s : List ℕ) (b : Bytes s) where
               delays = getD-set-other (x .form .delays) e j (new .delays) 0 ne i;
             })
             (r .laid)
-            (subst (λ (c : ℕ). GoodEdge c new) (p .nodes) (r .good));
+            (subst (λ (c : ℕ). GoodEdge c new) (p .counts .nodes) (r .good));
         start = p .start;
       }
 
@@ -241,36 +199,26 @@ module _ (s : List ℕ) (b : Bytes s) where
       let new : Slot = record { start = startAt s (x .next) last latency .start; retiming = startAt s (x .next) last latency .retiming } in
       let r : RowRead s at to 3 slotBytes (GoodSlot last latency) (startAt s (x .next) last latency .next) new =
       start-row s b (x .next) at to (p .next) last latency (omega arith) f in
+      let z : (length (x .form .start) ≡ 64) × (length (x .form .retiming) ≡ 64) = p .start .sized in
       record {
         head = p .head;
-        sized =
-            record {
-              class = p .sized .class;
-              node = p .sized .node;
-              from = p .sized .from;
-              to = p .sized .to;
-              delays = p .sized .delays;
-              start = length-set (x .form .start) v _ ∙ p .sized .start;
-              retiming = length-set (x .form .retiming) v _ ∙ p .sized .retiming;
-            };
         next = r .next;
-        classes = p .classes;
-        nodes = p .nodes;
-        edges = p .edges;
-        last = p .last;
+        counts = p .counts;
         class = p .class;
         node = p .node;
         edge = p .edge;
         start =
-            cells-put s (startsFrom s) 3 slotBytes (λ j. GoodSlot (headLength s) (latencyOf (x .form) j)) noSlot (p .start) _ new
+            cells-put s (startsFrom s) 3 slotBytes (λ j. GoodSlot (headLength s) (latencyOf (x .form) j)) noSlot (p .start)
+            (length-set (x .form .start) v _ ∙ z .0, length-set (x .form .retiming) v _ ∙ z .1)
+            _ new
             (λ i. record {
-              start = getD-set-same (x .form .start) v (new .start) noStep (omega (arith, p .sized .start, p .head .nodes)) i;
-              retiming = getD-set-same (x .form .retiming) v (new .retiming) 0 (omega (arith, p .sized .retiming, p .head .nodes)) i;
+              start = getD-set-same (x .form .start) v (new .start) noStep (omega (arith, z .0, p .head .nodes)) i;
+              retiming = getD-set-same (x .form .retiming) v (new .retiming) 0 (omega (arith, z .1, p .head .nodes)) i;
             })
             (λ j ne i. record {
               start = getD-set-other (x .form .start) v j (new .start) noStep ne i;
               retiming = getD-set-other (x .form .retiming) v j (new .retiming) 0 ne i;
             })
             (r .laid)
-            (subst (λ (c : ℕ). GoodSlot c latency new) (p .last) (r .good));
+            (subst (λ (c : ℕ). GoodSlot c latency new) (p .counts .last) (r .good));
       }

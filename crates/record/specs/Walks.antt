@@ -7,7 +7,7 @@ use mathlib.Core.Logic.{⊎-elim}
 use Prim.Native.Nat.{ℕ, _+_, _-_, _≤_, _<_}
 use native.Mathlib.Nat.{add-zero}
 use native.Mathlib.Omega.{arith}
-use lib.ListN.{length, take, drop, length-take, length-drop}
+use lib.ListN.{length, take, drop}
 use Rattle.answer.specs.Refused.{fine}
 use Rattle.answer.specs.declared.Refusal.{Refusal}
 use Rattle.form.specs.declared.Class.{Class}
@@ -24,6 +24,7 @@ use Rattle.field.specs.Taking.{taken, onward, wrongAt}
 use Rattle.field.specs.Laws.{Outside, bad}
 use Rattle.rows.specs.Rows.{latencyIn, unitsIn, classAt, classIn, codeIn, nodeAt, fromIn, toIn, edgeAt, startIn, startAt}
 use Rattle.writer.specs.Layout.{codeOf, classBytes, nodeBytes, edgeBytes, startBytes}
+use Rattle.record.specs.Rows.{slice-room}
 use Rattle.record.specs.LayoutSize.{node-width, start-width}
 use Rattle.record.specs.ReadRows.{Slot, slotBytes, GoodSlot}
 use Rattle.record.specs.Fields.{begun, got}
@@ -36,10 +37,6 @@ pub record Walks (Q : Refusal → Type 0) (at : ℕ) (c : Cursor) : Type 0 where
 -- a number within a known slice
 pub slice-number : (s part : List ℕ) (at size width k : ℕ) → take size (drop at s) ≡ part → k + width ≤ size → numberAt width s (at + k) ≡ numberAt width part k
 slice-number s part at size width k e h = sym (number-drop width s at k) ∙ sym (number-take width size (drop at s) k h) ∙ rw e
-
--- a slice of its whole size has room in the record
-pub slice-room : (s part : List ℕ) (at size : ℕ) → take size (drop at s) ≡ part → length part ≡ size → 0 < size → at + size ≤ length s
-slice-room s part at size e n z = omega (arith, simp (length-take, length-drop) at (ap length e))
 
 module _ (Q : Refusal → Type 0) (s : List ℕ) where
   -- a complete field goes on where its number is in range

@@ -28,12 +28,15 @@ use Rattle.record.specs.ReadHeld.{read-held}
 use Rattle.legal.specs.Loop.{loopOf, pairOf}
 use Rattle.legal.specs.Systems.{knotted}
 use Rattle.legal.specs.Handed.{Handed, handed-none, handed-knot}
+use Rattle.tables.specs.declared.Timetable.{Timetable}
+use Rattle.tables.specs.Times.{timesOf}
 use Rattle.knots.specs.Found.{KnotFound}
 use Rattle.record.specs.Early.{read-early}
 use Rattle.rotation.specs.declared.Plan.{Plan}
 use Rattle.rotation.specs.declared.Scheduled.{Scheduled}
+use Rattle.turning.specs.Pairs.{withTimes}
 use Rattle.turning.specs.Rotation.{firstForm}
-use Rattle.turning.specs.FirstLaws.{first-written}
+use Rattle.turning.specs.FirstLaws.{first-same, first-written}
 use Rattle.rotation.specs.Scheduling.{scheduleRecord, RecordScheduled, Planned, PlanWritten, firstAsked, unturned}
 
 -- a choice goes the same way where the value chosen is the same
@@ -56,8 +59,12 @@ taken-where f room w = go (fine (readForm (layout f) .refusal)) refl
 
 -- ---- a plan into a buffer
 
-module _ (y : Plan) (out : List ℕ) where
-  pub plan-refused : fine (y .refusal) ≡ false → PlanWritten y out out (record { refusal = y .refusal; size = 0; rotations = 0; cycle = y .cycle })
+module _ (f : Form) (y : Plan) (out : List ℕ) where
+  -- the form to be written
+  abbrev next : Form
+  next = withTimes f (y .times)
+
+  pub plan-refused : fine (y .refusal) ≡ false → PlanWritten f y out out (record { refusal = y .refusal; size = 0; rotations = 0; cycle = y .cycle })
   plan-refused b = record {
     refusal = sym (pick-false (fine (y .refusal)) _ _ b);
     size = sym (pick-false (fine (y .refusal)) _ _ b);
@@ -66,16 +73,17 @@ module _ (y : Plan) (out : List ℕ) where
     cycle = refl;
   }
 
-  pub plan-written : fine (y .refusal) ≡ true → (z : Written) (last : List ℕ) → z ≡ written (y .form) (length out) → last ≡ bufferAfter (y .form) out → (b : Bool) → b ≡ fine (z .refusal) → (n : ℕ) → n ≡ pick b (y .rotations) 0
-      → PlanWritten y out last (record { refusal = z .refusal; size = z .size; rotations = n; cycle = y .cycle })
+  pub plan-written : fine (y .refusal) ≡ true → (g : Form) → g ≡ next → (z : Written) (last : List ℕ) → z ≡ written g (length out) → last ≡ bufferAfter g out → (b : Bool) → b ≡ fine (z .refusal) → (n : ℕ) → n ≡ pick b (y .rotations) 0
+      → PlanWritten f y out last (record { refusal = z .refusal; size = z .size; rotations = n; cycle = y .cycle })
   unfolding written bufferAfter
-  plan-written t z last is-z is-last b is-b n is-n =
-      let refusal : z .refusal ≡ refusalOf (y .form) (length out) = ap (λ (w : Written). w .refusal) is-z in
+  plan-written t g is-g z last is-z is-last b is-b n is-n =
+      let whole : z ≡ written next (length out) = is-z ∙ ap (λ (h : Form). written h (length out)) is-g in
+      let refusal : z .refusal ≡ refusalOf next (length out) = ap (λ (w : Written). w .refusal) whole in
       record {
         refusal = refusal ∙ sym (pick-true (fine (y .refusal)) _ _ t);
-        size = ap (λ (w : Written). w .size) is-z ∙ ap (λ (q : Refusal). pick (fine q) (length (layout (y .form))) 0) (sym refusal);
+        size = ap (λ (w : Written). w .size) whole ∙ ap (λ (q : Refusal). pick (fine q) (length (layout next)) 0) (sym refusal);
         rotations = is-n ∙ ap (λ (d : Bool). pick d (y .rotations) 0) is-b;
-        buffer = is-last ∙ ap (λ (q : Refusal). pick (fine q) (sets out 0 (layout (y .form))) out) (sym refusal);
+        buffer = is-last ∙ ap (λ (h : Form). bufferAfter h out) is-g ∙ ap (λ (q : Refusal). pick (fine q) (sets out 0 (layout next)) out) (sym refusal);
         cycle = refl;
       }
 
@@ -103,14 +111,18 @@ module _ (asked : Form → Refusal) (planned : Form → Form) (turned : Form →
       here : Planned asked planned turned (readForm s .form) y
       here = subst (λ (q : Record). Planned asked planned turned (q .form) y) back plan
 
+      -- the form to be written is the form planned
+      form-here : fine (y .refusal) ≡ true → withTimes (x .form) (y .times) ≡ planned (readForm s .form)
+      form-here t = plan .form t ∙ ap (λ (q : Record). planned (q .form)) back
+
       -- the reader takes the bytes of the form planned
-      pub plan-taken : fine (y .refusal) ≡ true → fine (readForm (layout (y .form)) .refusal) ≡ true
+      pub plan-taken : fine (y .refusal) ≡ true → fine (readForm (layout (withTimes (x .form) (y .times))) .refusal) ≡ true
       plan-taken t =
-          subst (λ (f : Form). fine (readForm (layout f) .refusal) ≡ true) (sym (here .form t))
+          subst (λ (f : Form). fine (readForm (layout f) .refusal) ≡ true) (sym (form-here t))
           (taken-where (planned (readForm s .form)) 0
           (writes (readForm s .form) (read-well-formed s bytes read-fine) (read-held s bytes read-fine) (ap fine (sym (here .refusal)) ∙ t) 0))
 
-      module _ (last : List ℕ) (r : Scheduled) (a : PlanWritten y out last r) where
+      module _ (last : List ℕ) (r : Scheduled) (a : PlanWritten (x .form) y out last r) where
         -- what is fine in the end was planned
         was-fine : fine (r .refusal) ≡ true → fine (y .refusal) ≡ true
         was-fine t = go (fine (y .refusal)) refl
@@ -119,14 +131,14 @@ module _ (asked : Form → Refusal) (planned : Form → Form) (turned : Form →
             go true q = q
             go false q = both-ways t (ap fine (a .refusal ∙ pick-false (fine (y .refusal)) _ _ q) ∙ q)
 
-        form-is : fine (r .refusal) ≡ true → y .form ≡ planned (readForm s .form)
-        form-is t = here .form (was-fine t)
+        form-is : fine (r .refusal) ≡ true → withTimes (x .form) (y .times) ≡ planned (readForm s .form)
+        form-is t = form-here (was-fine t)
 
         handed-on : (b : Bool) → fine (y .refusal) ≡ b → Handed (loopOf (readForm s .form)) (pairOf (readForm s .form)) (r .refusal) (r .cycle)
         unfolding fine
         handed-on true t =
             let is : r .refusal ≡ refusalOf (planned (readForm s .form)) (length out) =
-            a .refusal ∙ pick-true (fine (y .refusal)) _ _ t ∙ ap (λ (f : Form). refusalOf f (length out)) (here .form t) in
+            a .refusal ∙ pick-true (fine (y .refusal)) _ _ t ∙ ap (λ (f : Form). refusalOf f (length out)) (form-here t) in
             let w = writes (readForm s .form) (read-well-formed s bytes read-fine) (read-held s bytes read-fine) (ap fine (sym (here .refusal)) ∙ t) (length out) in
             let late : (numberOf (r .refusal) ≡ 0) ⊎ (numberOf (r .refusal) ≡ 18) = ⊎-elim (λ q. inl (ap numberOf (is ∙ q))) (λ q. inr (ap numberOf (is ∙ q))) w in
             handed-none _ _ (r .refusal) (r .cycle)
@@ -144,7 +156,7 @@ module _ (asked : Form → Refusal) (planned : Form → Form) (turned : Form →
         entry-planned = record {
           refusal =
               a .refusal
-              ∙ pick-same (fine (y .refusal)) _ _ _ (λ t. ap (λ (f : Form). refusalOf f (length out)) (here .form t))
+              ∙ pick-same (fine (y .refusal)) _ _ _ (λ t. ap (λ (f : Form). refusalOf f (length out)) (form-here t))
               ∙ ap (λ (q : Refusal). pick (fine q) (refusalOf (planned (readForm s .form)) (length out)) q) (here .refusal)
               ∙ sym (pick-true (fine (readForm s .refusal)) _ _ read-fine);
           size = a .size ∙ pick-same (fine (r .refusal)) _ _ 0 (λ t. ap (λ (f : Form). length (layout f)) (form-is t));
@@ -156,23 +168,26 @@ module _ (asked : Form → Refusal) (planned : Form → Form) (turned : Form →
 -- ---- the first schedule
 
 module _ (f : Form) (k : Cycle) (found : KnotFound (loopOf f) k) where
-  pub first-knot : 0 < k .count → Planned firstAsked firstForm unturned f (record { refusal = Knot; rotations = 0; cycle = k; form = f })
+  pub first-knot : 0 < k .count → (t : Timetable) → Planned firstAsked firstForm unturned f (record { refusal = Knot; rotations = 0; cycle = k; times = t })
   unfolding firstAsked fine
-  first-knot l = record {
+  first-knot l t = record {
     refusal = sym (pick-true (knotted (loopOf f)) _ _ (found .tied l));
     form = λ q. both-ways q refl;
     rotations = λ q. refl;
     handed = handed-knot (loopOf f) (pairOf f) k (found .knot l) (found .tallies);
   }
 
-  pub first-planned : k .count ≤ 0 → (h : Form) → h ≡ firstForm f → Planned firstAsked firstForm unturned f (record { refusal = None; rotations = 0; cycle = k; form = h })
+  pub first-planned : WellFormed f → k .count ≤ 0 → (t : Timetable) → t ≡ timesOf (firstForm f)
+      → Planned firstAsked firstForm unturned f (record { refusal = None; rotations = 0; cycle = k; times = t })
   unfolding firstAsked
-  first-planned l h is = record {
-    refusal = sym (pick-false (knotted (loopOf f)) _ _ (found .free (omega arith)));
-    form = λ _. is;
-    rotations = λ _. refl;
-    handed = handed-none _ _ None k (omega arith) (omega arith) (found .none (omega arith));
-  }
+  first-planned w l t is =
+      let free = found .free (omega arith) in
+      record {
+        refusal = sym (pick-false (knotted (loopOf f)) _ _ free);
+        form = λ _. ap (withTimes f) is ∙ sym (first-same f w free);
+        rotations = λ _. refl;
+        handed = handed-none _ _ None k (omega arith) (omega arith) (found .none (omega arith));
+      }
 
 pub first-writes : (f : Form) → WellFormed f → Held f → fine (firstAsked f) ≡ true → (room : ℕ) → (refusalOf (firstForm f) room ≡ None) ⊎ (refusalOf (firstForm f) room ≡ Room 0)
 unfolding firstAsked fine

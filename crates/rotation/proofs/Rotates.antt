@@ -3,10 +3,10 @@
 use mathlib.Core.Path.{_≡_, refl, sym, ap, _∙_}
 use mathlib.Core.Bool.{Bool, true, false, _&&_}
 use mathlib.Core.Logic.{_⊎_, _≢_}
+use mathlib.Core.List.{List}
 use Prim.Native.Nat.{ℕ, _≤_, _<_}
 use native.Mathlib.Omega.{arith}
 use lib.Dec.{ltb}
-use lib.ListN.{length}
 use borrow.Author.Tests.{ltb-true, lt-ltb, le-ltb}
 use Rattle.lists.specs.Pick.{pick-true, pick-false, pick-ind, both-ways}
 use Rattle.lists.specs.Both.{and-both}
@@ -23,11 +23,14 @@ use Rattle.legal.specs.Legal.{Legal}
 use Rattle.legal.specs.Judging.{judgeOf}
 use Rattle.legal.specs.Judged.{judged, judged-none, judge-accepts}
 use Rattle.legal.specs.Handed.{handed-none}
+use Rattle.tables.specs.declared.Timetable.{Timetable}
+use Rattle.tables.specs.Times.{timesOf}
 use Rattle.judge.specs.Judgement.{Judgement}
 use Rattle.judge.specs.declared.Judged as verdict
-use Rattle.turning.specs.Pairs.{withPair}
+use Rattle.turning.specs.Pairs.{withPair, withTimes}
 use Rattle.turning.specs.Rotation.{rotatedLength, rotated, tooLong, turnedForm, rotatedOr}
-use Rattle.turning.specs.RotatedLaws.{rotated-written}
+use Rattle.turning.specs.Lending.{Tabled, Turnable}
+use Rattle.turning.specs.RotatedLaws.{rotated-same, rotated-written}
 use Rattle.rotation.specs.Scheduling.{Planned, unturned, turns, rotateAsked, rotatedBy}
 
 -- what steps can be rotated
@@ -48,6 +51,11 @@ or-length : (f : Form) (z : ℕ) → rotatedOr f z .header .length ≡ rotatedLe
 unfolding rotatedOr turnedForm rotated withPair
 or-length f z = pick-ind (λ (x : Form). x .header .length ≡ rotatedLength f z) (tooLong f z) (turnedForm f z) (rotated f z) (λ _. refl) (λ _. refl)
 
+-- the steps are those of the form's body
+pub turns-here : (f : Form) (edges : ℕ) (from to delays : List ℕ) (t : Timetable) → Tabled f edges from to delays t → (z : ℕ) (b : Bool) → b ≡ turns z (t .length) → turns z (f .header .length) ≡ b
+unfolding timesOf
+turns-here f edges from to delays t k z b is = ap (λ (u : Timetable). turns z (u .length)) (sym (k .is)) ∙ sym is
+
 -- what the judge accepts, and what it refuses
 module _ (f : Form) (j : verdict.Judged) (q : Judgement f j) where
   pub judge-accepted : WellFormed f → fine (j .refusal) ≡ true → judgeOf f ≡ None
@@ -58,9 +66,9 @@ module _ (f : Form) (j : verdict.Judged) (q : Judgement f j) where
   accepted-alone t = q .handed .none (λ e. both-ways t (ap fine e)) (λ e. both-ways t (ap fine e))
 
   pub rotate-unjudged : (z : ℕ) → fine (j .refusal) ≡ false
-      → Planned (rotateAsked z) (rotatedBy z) unturned f (record { refusal = j .refusal; rotations = 0; cycle = j .cycle; form = f })
+      → (t : Timetable) → Planned (rotateAsked z) (rotatedBy z) unturned f (record { refusal = j .refusal; rotations = 0; cycle = j .cycle; times = t })
   unfolding rotateAsked
-  rotate-unjudged z b = record {
+  rotate-unjudged z b _ = record {
     refusal = q .refusal ∙ sym (pick-false (fine (judgeOf f)) _ _ (sym (ap fine (q .refusal)) ∙ b));
     form = λ t. both-ways t b;
     rotations = λ t. refl;
@@ -73,26 +81,30 @@ module _ (f : Form) (w : WellFormed f) (z : ℕ) (accepted : judgeOf f ≡ None)
   judge-fine = ap fine accepted
 
   -- what the judge accepts is legal
-  pub rotate-legal : turns z (f .header .length) ≡ true → Legal (loopOf f) (pairOf f) × (1 ≤ z) × (z < f .header .length)
+  rotate-legal : turns z (f .header .length) ≡ true → Legal (loopOf f) (pairOf f) × (1 ≤ z) × (z < f .header .length)
   rotate-legal t = let b = turns-told z (f .header .length) t in (judge-accepts f w accepted .1, b .0, b .1)
 
+  pub rotate-turnable : turns z (f .header .length) ≡ true → (edges : ℕ) (from to delays : List ℕ) (t : Timetable) → Tabled f edges from to delays t → Turnable f edges from to delays t z
+  rotate-turnable b edges from to delays t k = let l = rotate-legal b in record { tabled = k; legal = l .0; some = l .1; below = l .2 }
+
   pub rotate-size : turns z (f .header .length) ≡ false → (n : ℕ) → n ≡ z → (c : Cycle) → c ≡ noCycle
-      → Planned (rotateAsked z) (rotatedBy z) unturned f (record { refusal = Size n; rotations = 0; cycle = c; form = f })
+      → (u : Timetable) → Planned (rotateAsked z) (rotatedBy z) unturned f (record { refusal = Size n; rotations = 0; cycle = c; times = u })
   unfolding rotateAsked fine
-  rotate-size b n is c none = record {
+  rotate-size b n is c none _ = record {
     refusal = ap (λ (k : ℕ). Size k) is ∙ sym (pick-true (fine (judgeOf f)) _ _ judge-fine ∙ pick-false (turns z (f .header .length)) _ _ b);
     form = λ t. both-ways t refl;
     rotations = λ t. refl;
     handed = handed-none _ _ (Size n) c (omega arith) (omega arith) none;
   }
 
-  module _ (t : turns z (f .header .length) ≡ true) (x : Form) (is : x ≡ rotatedOr f z) (c : Cycle) (none : c ≡ noCycle) where
-    long-is : x .header .length ≡ rotatedLength f z
-    long-is = ap (λ (g : Form). g .header .length) is ∙ or-length f z
+  module _ (t : turns z (f .header .length) ≡ true) (x : Timetable) (is : x ≡ timesOf (rotatedOr f z)) (c : Cycle) (none : c ≡ noCycle) where
+    long-is : x .length ≡ rotatedLength f z
+    unfolding timesOf
+    long-is = ap (λ (y : Timetable). y .length) is ∙ or-length f z
 
-    pub rotate-too-long : 512 < x .header .length → Planned (rotateAsked z) (rotatedBy z) unturned f (record { refusal = Long; rotations = 0; cycle = c; form = f })
+    pub rotate-too-long : 512 < x .length → (u : Timetable) → Planned (rotateAsked z) (rotatedBy z) unturned f (record { refusal = Long; rotations = 0; cycle = c; times = u })
     unfolding rotateAsked tooLong fine
-    rotate-too-long l = record {
+    rotate-too-long l _ = record {
       refusal =
           sym (pick-true (fine (judgeOf f)) _ _ judge-fine
           ∙ pick-true (turns z (f .header .length)) _ _ t
@@ -102,16 +114,17 @@ module _ (f : Form) (w : WellFormed f) (z : ℕ) (accepted : judgeOf f ≡ None)
       handed = handed-none _ _ Long c (omega arith) (omega arith) none;
     }
 
-    pub rotate-planned : x .header .length ≤ 512 → Planned (rotateAsked z) (rotatedBy z) unturned f (record { refusal = None; rotations = 0; cycle = c; form = x })
+    pub rotate-planned : x .length ≤ 512 → Planned (rotateAsked z) (rotatedBy z) unturned f (record { refusal = None; rotations = 0; cycle = c; times = x })
     unfolding rotateAsked rotatedOr tooLong
     rotate-planned l =
+        let legal = rotate-legal t in
         let short : tooLong f z ≡ false = le-ltb 512 (rotatedLength f z) (omega (arith, long-is)) in
         record {
           refusal =
               sym (pick-true (fine (judgeOf f)) _ _ judge-fine
               ∙ pick-true (turns z (f .header .length)) _ _ t
               ∙ pick-false (tooLong f z) _ _ short);
-          form = λ _. is ∙ pick-false (tooLong f z) _ _ short;
+          form = λ _. ap (withTimes f) (is ∙ ap timesOf (pick-false (tooLong f z) _ _ short)) ∙ sym (rotated-same f w (legal .0) z (legal .1) (legal .2));
           rotations = λ _. refl;
           handed = handed-none _ _ None c (omega arith) (omega arith) none;
         }
@@ -131,4 +144,4 @@ pub rotate-writes : (z : ℕ) (f : Form) → WellFormed f → Held f → fine (r
 rotate-writes z f w h e room =
     let a = asked-told z f e in
     let l = rotate-legal f w z (judged-none (loopOf f) (pairOf f) (judgeOf f) (judged f w) (a .0)) (a .1) in
-    rotated-written f w (l .0) z (l .1) (l .2) (h .sized .start) (a .2) h room
+    rotated-written f w (l .0) z (l .1) (l .2) (a .2) h room

@@ -19,6 +19,7 @@ use Rattle.legal.specs.Loop.{loopOf, pairOf}
 use Rattle.legal.specs.Systems.{knotted}
 use Rattle.legal.specs.Judging.{judgeOf}
 use Rattle.legal.specs.Handed.{Handed}
+use Rattle.turning.specs.Pairs.{withTimes}
 use Rattle.turning.specs.Rotation.{rotated, tooLong}
 use Rattle.rotation.specs.declared.Plan.{Plan}
 use Rattle.rotation.specs.declared.Scheduled.{Scheduled}
@@ -42,16 +43,16 @@ module _ (asked : Form → Refusal) (planned : Form → Form) (turned : Form →
   -- a form's part of that, before anything is written
   pub record Planned (f : Form) (y : Plan) : Type 0 where
     pub refusal : y .refusal ≡ asked f
-    pub form : fine (y .refusal) ≡ true → y .form ≡ planned f
+    pub form : fine (y .refusal) ≡ true → withTimes f (y .times) ≡ planned f
     pub rotations : fine (y .refusal) ≡ true → y .rotations ≡ turned f
     pub handed : Handed (loopOf f) (pairOf f) (y .refusal) (y .cycle)
 
--- a plan written, unless it is refused
-pub record PlanWritten (y : Plan) (out out′ : List ℕ) (r : Scheduled) : Type 0 where
-  pub refusal : r .refusal ≡ pick (fine (y .refusal)) (refusalOf (y .form) (length out)) (y .refusal)
-  pub size : r .size ≡ pick (fine (r .refusal)) (length (layout (y .form))) 0
+-- the form with a plan's pair written, unless the plan is refused
+pub record PlanWritten (f : Form) (y : Plan) (out out′ : List ℕ) (r : Scheduled) : Type 0 where
+  pub refusal : r .refusal ≡ pick (fine (y .refusal)) (refusalOf (withTimes f (y .times)) (length out)) (y .refusal)
+  pub size : r .size ≡ pick (fine (r .refusal)) (length (layout (withTimes f (y .times)))) 0
   pub rotations : r .rotations ≡ pick (fine (r .refusal)) (y .rotations) 0
-  pub buffer : out′ ≡ pick (fine (r .refusal)) (sets out 0 (layout (y .form))) out
+  pub buffer : out′ ≡ pick (fine (r .refusal)) (sets out 0 (layout (withTimes f (y .times)))) out
   pub cycle : r .cycle ≡ y .cycle
 
 -- the first schedule: only a knot is refused, and nothing is rotated

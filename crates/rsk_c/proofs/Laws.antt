@@ -8,7 +8,6 @@ use lib.ListN.{length}
 use Rattle.lists.specs.Pick.{pick}
 use Rattle.answer.specs.Refused.{fine, numberOf, details}
 use Rattle.answer.specs.Outcome.{noCycle, answerList}
-use Rattle.answer.specs.declared.Details.{Details}
 use Rattle.answer.specs.declared.Cycle.{Cycle}
 use Rattle.field.specs.Number.{Bytes}
 use Rattle.reader.specs.declared.Record.{Record}
@@ -39,7 +38,7 @@ module _ (s out : List ℕ) (r : Record) (back : r ≡ readForm s) where
       (λ t. ap (λ (x : Record). fine (x .refusal)) (well-formed-written (readForm s .form) (read-held s bytes t) (read-well-formed s bytes t)))
 
 -- the answer that says so
-pub answered : (s last : List ℕ) (room number : ℕ) (w : Written) (numbers : Details) (cycle : Cycle) → w ≡ rewritten s room → numbers ≡ details (w .size) 0 0 → cycle ≡ noCycle
-    → number ≡ numberOf (w .refusal) → last ≡ answerList (w .refusal) numbers cycle → (number ≡ numberOf (rewritten s room .refusal)) × (last ≡ rewrittenAnswer s room)
+pub answered : (s last : List ℕ) (room number : ℕ) (w : Written) (cycle : Cycle) → w ≡ rewritten s room → cycle ≡ noCycle
+    → number ≡ numberOf (w .refusal) → last ≡ answerList (w .refusal) (details (w .size) 0 0) cycle → (number ≡ numberOf (rewritten s room .refusal)) × (last ≡ rewrittenAnswer s room)
 unfolding rewrittenAnswer
-answered s last room number w numbers cycle ew en ec e el = (e ∙ ap (λ x. numberOf (x .refusal)) ew, el ∙ rw (en, ec, ew))
+answered s last room number w cycle ew ec e el = (e ∙ ap (λ x. numberOf (x .refusal)) ew, el ∙ rw (ec, ew))

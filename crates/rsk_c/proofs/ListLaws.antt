@@ -5,13 +5,12 @@ use mathlib.Core.List.{List}
 use Prim.Native.Nat.{ℕ}
 use Rattle.answer.specs.Refused.{numberOf, details}
 use Rattle.answer.specs.Outcome.{noCycle, answerList}
-use Rattle.answer.specs.declared.Details.{Details}
 use Rattle.answer.specs.declared.Cycle.{Cycle}
 use Rattle.listing.specs.declared.Listed.{Listed}
 use Rattle.listing.specs.Lines.{listed}
 use Rattle.rsk_c.specs.List.{listedAnswer}
 
-pub list-answered : (s last : List ℕ) (room number : ℕ) (r : Listed) (numbers : Details) (cycle : Cycle) → r ≡ listed s room → numbers ≡ details (r .size) 0 0 → cycle ≡ noCycle
-    → number ≡ numberOf (r .refusal) → last ≡ answerList (r .refusal) numbers cycle → (number ≡ numberOf (listed s room .refusal)) × (last ≡ listedAnswer s room)
+pub list-answered : (s last : List ℕ) (room number : ℕ) (r : Listed) (cycle : Cycle) → r ≡ listed s room → cycle ≡ noCycle
+    → number ≡ numberOf (r .refusal) → last ≡ answerList (r .refusal) (details (r .size) 0 0) cycle → (number ≡ numberOf (listed s room .refusal)) × (last ≡ listedAnswer s room)
 unfolding listedAnswer
-list-answered s last room number r numbers cycle er en ec e el = (e ∙ ap (λ (x : Listed). numberOf (x .refusal)) er, el ∙ rw (en, ec, er))
+list-answered s last room number r cycle er ec e el = (e ∙ ap (λ (x : Listed). numberOf (x .refusal)) er, el ∙ rw (ec, er))

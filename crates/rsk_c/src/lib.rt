@@ -18,16 +18,11 @@ pub extern "C" fn rsk_rewrite(record: &[u8], out: &mut [u8], answer: &mut [u32; 
     let read = reader::read(record);
     let refusal = read.refusal;
     if !refusal.is_fine() {
-        return answer::fill(answer, refusal, answer::numbers_of(0, 0, 0), Cycle::none());
+        return answer::fill(answer, refusal, 0, 0, 0, Cycle::none());
     }
     let written = writer::write_taken(read.form, out);
     let refused = written.refusal;
-    answer::fill(
-        answer,
-        refused,
-        answer::numbers_of(written.size, 0, 0),
-        Cycle::none(),
-    )
+    answer::fill(answer, refused, written.size, 0, 0, Cycle::none())
 }
 
 // The record judged; no numbers.
@@ -38,7 +33,7 @@ pub extern "C" fn rsk_judge(record: &[u8], answer: &mut [u32; 69]) -> u32
     let judged = judge::judge(record);
     let refusal = judged.refusal;
     let knot = judged.cycle;
-    answer::fill(answer, refusal, answer::numbers_of(0, 0, 0), knot)
+    answer::fill(answer, refusal, 0, 0, 0, knot)
 }
 
 // The record with its retiming fitted afresh; its size.
@@ -49,12 +44,7 @@ pub extern "C" fn rsk_fit(record: &[u8], out: &mut [u8], answer: &mut [u32; 69])
     let fitted = fit::fit(record, out);
     let refusal = fitted.refusal;
     let cycle = fitted.cycle;
-    answer::fill(
-        answer,
-        refusal,
-        answer::numbers_of(fitted.size, 0, 0),
-        cycle,
-    )
+    answer::fill(answer, refusal, fitted.size, 0, 0, cycle)
 }
 
 // The record with its first schedule; its size.
@@ -65,12 +55,7 @@ pub extern "C" fn rsk_first(record: &[u8], out: &mut [u8], answer: &mut [u32; 69
     let scheduled = rotation::first(record, out);
     let refusal = scheduled.refusal;
     let cycle = scheduled.cycle;
-    answer::fill(
-        answer,
-        refusal,
-        answer::numbers_of(scheduled.size, 0, 0),
-        cycle,
-    )
+    answer::fill(answer, refusal, scheduled.size, 0, 0, cycle)
 }
 
 // The record rotated by z steps; its size.
@@ -81,12 +66,7 @@ pub extern "C" fn rsk_rotate(record: &[u8], z: u16, out: &mut [u8], answer: &mut
     let rotated = rotation::rotate(record, z, out);
     let refusal = rotated.refusal;
     let cycle = rotated.cycle;
-    answer::fill(
-        answer,
-        refusal,
-        answer::numbers_of(rotated.size, 0, 0),
-        cycle,
-    )
+    answer::fill(answer, refusal, rotated.size, 0, 0, cycle)
 }
 
 // The record with the shortest pair of a search; its size and the rotations completed.
@@ -103,12 +83,7 @@ pub extern "C" fn rsk_search(
     let found = search::search(record, count, size, out);
     let refusal = found.refusal;
     let cycle = found.cycle;
-    answer::fill(
-        answer,
-        refusal,
-        answer::numbers_of(found.size, found.rotations, 0),
-        cycle,
-    )
+    answer::fill(answer, refusal, found.size, found.rotations, 0, cycle)
 }
 
 // The floor of the record: the floor, the part that attains it, and the class for part b.
@@ -122,12 +97,7 @@ pub extern "C" fn rsk_floor(record: &[u8], answer: &mut [u32; 69]) -> u32
     let cycle = floored.cycle;
     let number = floor_part::part_number(part);
     let class = floor_part::part_class(part);
-    answer::fill(
-        answer,
-        refusal,
-        answer::numbers_of(floored.floor, number, class),
-        cycle,
-    )
+    answer::fill(answer, refusal, floored.floor, number, class, cycle)
 }
 
 // The record's listing as text; its size.
@@ -139,12 +109,7 @@ pub extern "C" fn rsk_list(record: &[u8], out: &mut [u8], answer: &mut [u32; 69]
 {
     let listed = listing::list(record, out);
     let refusal = listed.refusal;
-    answer::fill(
-        answer,
-        refusal,
-        answer::numbers_of(listed.size, 0, 0),
-        Cycle::none(),
-    )
+    answer::fill(answer, refusal, listed.size, 0, 0, Cycle::none())
 }
 
 // The record stepped on the machine for k iterations; its run steps.
@@ -161,12 +126,7 @@ pub extern "C" fn rsk_run<'a>(
 {
     let ran = run::run(record, k, starts, values, finish);
     let refusal = ran.refusal;
-    answer::fill(
-        answer,
-        refusal,
-        answer::numbers_of(ran.steps, 0, 0),
-        Cycle::none(),
-    )
+    answer::fill(answer, refusal, ran.steps, 0, 0, Cycle::none())
 }
 
 // The plain loop of the record for k iterations; no numbers.
@@ -183,5 +143,5 @@ pub extern "C" fn rsk_plain(
     let looped = plain::plain(record, k, starts, values);
     let refusal = looped.refusal;
     let cycle = looped.cycle;
-    answer::fill(answer, refusal, answer::numbers_of(0, 0, 0), cycle)
+    answer::fill(answer, refusal, 0, 0, 0, cycle)
 }

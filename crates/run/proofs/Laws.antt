@@ -19,8 +19,7 @@ use Rattle.form.specs.Ranges.{WellFormed}
 use Rattle.legal.specs.Loop.{graphOf, loopOf, pairOf}
 use Rattle.tables.specs.Most.{mostOf}
 use Rattle.machine.specs.Run.{depth, cleared}
-use Rattle.run.specs.Tables.{stepAt}
-use Rattle.run.specs.Late.{missing}
+use Rattle.run.specs.Order.{stepAt}
 
 pub ruleset tests = (needs, eq-eqb, ne-eqb, le-leb, lt-leb, le-ltb, lt-ltb)
 
@@ -53,21 +52,6 @@ starts-in f w some v l =
 
 pub start-few : (f : Form) → WellFormed f → f .header .length ≢ 0 → (v : ℕ) → v < f .header .nodes → stepAt (f .start) v ≤ 512
 start-few f w some v l = omega (arith, starts-in f w some v l .1, w .length)
-
--- ---- what an edge hands over
-
-module _ (nodes : ℕ) (finish : List ℕ) (i t u d : ℕ) where
-  pub missing-before : i < d → false ≡ missing nodes finish i t u d
-  unfolding missing
-  missing-before l = rw (lt-ltb i d l)
-
-  pub missing-none : d ≤ i → getD finish ((i - d) * nodes + u) 0 ≡ 0 → true ≡ missing nodes finish i t u d
-  unfolding missing
-  missing-none l e = rw (le-ltb i d l, eq-eqb (getD finish ((i - d) * nodes + u) 0) 0 e)
-
-  pub missing-some : d ≤ i → getD finish ((i - d) * nodes + u) 0 ≢ 0 → ltb t (getD finish ((i - d) * nodes + u) 0) ≡ missing nodes finish i t u d
-  unfolding missing
-  missing-some l e = rw (le-ltb i d l, ne-eqb (getD finish ((i - d) * nodes + u) 0) 0 e)
 
 -- ---- the depth
 

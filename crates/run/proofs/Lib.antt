@@ -1,6 +1,5 @@
 pub mod Laws
 pub mod Placing
-pub mod Issuing
 pub mod Midway
 pub mod Rounds
 pub mod Entry

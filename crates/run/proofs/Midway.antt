@@ -28,8 +28,8 @@ use Rattle.machine.specs.Run.{Machine, depth, issues, issue, visit, iteration}
 use Rattle.machine.specs.Moments.{repOf, issueStep}
 use Rattle.run.specs.Order.{Rising, order-rising, order-length}
 use Rattle.run.specs.Repeat.{order, stepIn, visitIn, repeated, visits-stay}
-use Rattle.run.specs.Units.{Boarded, Point, point-later}
-use Rattle.run.specs.Issue.{machineOf, IssueTold, Outcome, SameSizes}
+use Rattle.issue.specs.Units.{Boarded, Point, point-later}
+use Rattle.issue.specs.Issue.{machineOf, IssueTold, Outcome, SameSizes}
 use Rattle.run.specs.Going.{Before, Went}
 use Rattle.run.proofs.Laws.{starts-in}
 

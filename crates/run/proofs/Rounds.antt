@@ -17,7 +17,7 @@ use Rattle.form.specs.declared.Form.{Form}
 use Rattle.legal.specs.Loop.{loopOf, pairOf}
 use Rattle.machine.specs.Run.{Machine}
 use Rattle.run.specs.Repeat.{repeated, repetitions-stay}
-use Rattle.run.specs.Issue.{machineOf}
+use Rattle.issue.specs.Issue.{machineOf}
 use Rattle.run.specs.Going.{Before, Went, Repetitions}
 
 module _ (f : Form) (k deep : ℕ) (starts values₀ finish₀ : List ℕ) where

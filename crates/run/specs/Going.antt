@@ -17,8 +17,8 @@ use Rattle.legal.specs.Loop.{loopOf, pairOf}
 use Rattle.machine.specs.Run.{depth}
 use Rattle.links.specs.Chains.{Chains}
 use Rattle.run.specs.Repeat.{order, repeated}
-use Rattle.run.specs.Units.{Point}
-use Rattle.run.specs.Issue.{machineOf, SameSizes}
+use Rattle.issue.specs.Units.{Point}
+use Rattle.issue.specs.Issue.{machineOf, SameSizes}
 
 -- a form with a schedule, its depth, its order and its links, and a start table that is long enough
 pub record Equipped (f : Form) (deep : ℕ) (table first next starts : List ℕ) : Type 0 where

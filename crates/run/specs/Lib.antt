@@ -1,9 +1,5 @@
 pub mod Order
 pub mod Repeats
 pub mod Repeat
-pub mod Tables
-pub mod Units
-pub mod Late
-pub mod Issue
 pub mod Going
 pub mod Running

@@ -16,7 +16,7 @@ use Rattle.reader.specs.Reading.{readForm}
 use Rattle.legal.specs.Loop.{loopOf, pairOf}
 use Rattle.machine.specs.Run.{Machine, runSteps, runOf}
 use Rattle.run.specs.declared.Ran.{Ran}
-use Rattle.run.specs.Issue.{machineOf}
+use Rattle.issue.specs.Issue.{machineOf}
 
 -- what a form of so many steps and nodes is refused for: no schedule, or a buffer that is too short
 unfoldable pub roomAsked : ℕ → ℕ → ℕ → List ℕ → List ℕ → List ℕ → Refusal

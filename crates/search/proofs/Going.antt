@@ -3,40 +3,92 @@
 use mathlib.Core.Path.{_≡_, refl, sym, ap, subst, _∙_}
 use mathlib.Core.Bool.{Bool, true, false, _||_}
 use mathlib.Core.Logic.{_≢_}
+use mathlib.Core.List.{List}
 use Prim.Native.Nat.{ℕ, suc, _+_, _-_, _≤_, _<_}
 use native.Mathlib.Nat.{sub-zero, pos-of-ne-zero}
 use native.Mathlib.Omega.{arith}
 use borrow.Author.Tests.{lt-ltb, le-ltb, eq-eqb, ne-eqb}
-use lib.Dec.{eqb}
+use lib.Dec.{eqb, ltb}
 use Rattle.lists.specs.Pick.{pick, pick-ind, pick-true, pick-false}
 use Rattle.lists.specs.Both.{fails-or}
 use Rattle.form.specs.declared.Form.{Form}
 use Rattle.form.specs.Ranges.{WellFormed}
-use Rattle.legal.specs.Loop.{loopOf, pairOf}
-use Rattle.legal.specs.Legal.{Legal}
+use Rattle.legal.specs.Loop.{loopOf}
 use Rattle.legal.specs.Systems.{knotted}
-use Rattle.turning.specs.Pairs.{withPair}
+use Rattle.tables.specs.declared.Timetable.{Timetable}
+use Rattle.tables.specs.Times.{timesOf}
+use Rattle.turning.specs.Pairs.{withPair, withTimes, SameButPair, same-loop}
 use Rattle.turning.specs.Rotation.{firstForm, rotatedLength, rotated, tooLong, turnedForm, rotatedOr}
+use Rattle.turning.specs.FirstLaws.{first-same, first-well-formed}
+use Rattle.turning.specs.RotatedLaws.{rotated-next}
+use Rattle.turning.specs.Lending.{Tabled, Unknotted, Turnable, lent-next}
 use Rattle.search.specs.Search.{Search, halved, stops, shorter, turn, begun, searchFrom, searched}
+use Rattle.search.specs.Searching.{Answers}
 use Rattle.search.specs.Halved.{halved-below, halved-small}
 use Rattle.search.specs.Good.{GoodPair, first-good, rotated-good}
 
-abbrev pub at : Form → ℕ → Form → ℕ → Search
+abbrev at : Form → ℕ → Form → ℕ → Search
 at now steps best rotations = record { now = now; steps = steps; best = best; rotations = rotations }
 
-pub record Going (first : Form) (count size : ℕ) (now best : Form) (steps rotations : ℕ) : Type 0 where
+-- the tables are those of the form's first schedule
+pub record Begun (f : Form) (edges : ℕ) (from to delays : List ℕ) (t : Timetable) : Type 0 where
+  pub good : WellFormed f
+  pub free : knotted (loopOf f) ≡ false
+  pub first : Tabled (firstForm f) edges from to delays t
+
+pub begun-first : (f : Form) (edges : ℕ) (from to delays : List ℕ) (t : Timetable) → Unknotted f edges from to delays t → (u : Timetable) → u ≡ timesOf (firstForm f) → Begun f edges from to delays u
+begun-first f edges from to delays t k u is =
+    let w = k .tabled .lent .good in
+    record {
+      good = w;
+      free = k .free;
+      first = record {
+        lent = lent-next f (firstForm f) edges from to delays t u (k .tabled .lent) (same-loop f (firstForm f) (first-same f w (k .free))) (first-well-formed f w (k .free)) is;
+        is = is;
+      };
+    }
+
+-- the timetables at hand are those of two forms of the search, which differ from the first in their pairs alone
+pub record Going (f : Form) (count size : ℕ) (now best : Timetable) (steps rotations : ℕ) : Type 0 where
+  pub at-hand : Form
+  pub shortest : Form
+  pub is-now : now ≡ timesOf at-hand
+  pub is-best : best ≡ timesOf shortest
+  pub good : GoodPair at-hand
+  pub same-now : SameButPair f at-hand
+  pub same-best : SameButPair f shortest
   pub within : rotations ≤ count
   pub small : steps < 65536
-  pub good : GoodPair now
-  pub rest : searchFrom (count - rotations) (at now steps best rotations) ≡ searchFrom count (at first size first 0)
+  pub rest : searchFrom (count - rotations) (at at-hand steps shortest rotations) ≡ searched f count size
 
-pub going-none : (f : Form) → WellFormed f → knotted (loopOf f) ≡ false → (first : Form) → first ≡ firstForm f → (count size : ℕ) → size < 65536 → Going first count size first first size 0
-going-none f w free first is count size small = record {
+pub going-none : (f : Form) (edges : ℕ) (from to delays : List ℕ) (first : Timetable) → Begun f edges from to delays first → (count size : ℕ) → size < 65536 → Going f count size first first size 0
+unfolding searched begun
+going-none f edges from to delays first k count size small = record {
+  at-hand = firstForm f;
+  shortest = firstForm f;
+  is-now = k .first .is;
+  is-best = k .first .is;
+  good = first-good f (k .good) (k .free);
+  same-now = first-same f (k .good) (k .free);
+  same-best = first-same f (k .good) (k .free);
   within = omega arith;
   small = small;
-  good = subst GoodPair (sym is) (first-good f w free);
   rest = rw (sub-zero count);
 }
+
+-- the shorter of two timetables is that of the shorter form
+module _ (x y : Form) (old new : Timetable) (is-old : old ≡ timesOf x) (is-new : new ≡ timesOf y) where
+  lengths : (old .length ≡ x .header .length) × (new .length ≡ y .header .length)
+  unfolding timesOf
+  lengths = (ap (λ (t : Timetable). t .length) is-old, ap (λ (t : Timetable). t .length) is-new)
+
+  pub shorter-new : new .length < old .length → new ≡ timesOf (shorter x y)
+  unfolding shorter
+  shorter-new l = is-new ∙ ap timesOf (sym (pick-true (ltb (y .header .length) (x .header .length)) y x (lt-ltb (y .header .length) (x .header .length) (omega (arith, lengths)))))
+
+  pub shorter-old : old .length ≤ new .length → old ≡ timesOf (shorter x y)
+  unfolding shorter
+  shorter-old l = is-old ∙ ap timesOf (sym (pick-false (ltb (y .header .length) (x .header .length)) y x (le-ltb (y .header .length) (x .header .length) (omega (arith, lengths)))))
 
 -- a form rotated has its length, too long or not
 or-length : (f : Form) (s : ℕ) → rotatedOr f s .header .length ≡ rotatedLength f s
@@ -47,18 +99,10 @@ either : (a b : Bool) → b ≡ true → a || b ≡ true
 either true b e = refl
 either false b e = e
 
--- a size halved and not 0 is one of a rotation
-pub turn-good : (now : Form) → GoodPair now → (z s : ℕ) → z < 65536 → s ≡ halved 17 (now .header .length) z → s ≢ 0 → (WellFormed now × Legal (loopOf now) (pairOf now)) × ((1 ≤ s) × (s < now .header .length))
-turn-good now good z s small halves n = ((good .well-formed, good .legal), (pos-of-ne-zero n, rw halves (halved-below (now .header .length) (good .some) z small)))
-
--- what the answer is
-abbrev pub Answered : Form → ℕ → ℕ → Form → ℕ → Type 0
-Answered f count size best rotations = (best ≡ searched f count size .best) × (rotations ≡ searched f count size .rotations)
-
-module _ (first : Form) (count size : ℕ) (now best : Form) (steps rotations : ℕ) (k : Going first count size now best steps rotations) where
+module _ (f : Form) (count size : ℕ) (now best : Timetable) (steps rotations : ℕ) (k : Going f count size now best steps rotations) where
   -- the search as it is here
   unfoldable here : Search
-  here = at now steps best rotations
+  here = at (k .at-hand) steps (k .shortest) rotations
 
   one-more : rotations < count → searchFrom (count - rotations) here ≡ pick (stops here) here (searchFrom (count - (rotations + 1)) (turn here))
   unfolding searchFrom
@@ -66,67 +110,100 @@ module _ (first : Form) (count size : ℕ) (now best : Form) (steps rotations : 
       let left : count - rotations ≡ suc (count - (rotations + 1)) = omega arith in
       ap (λ (n : ℕ). searchFrom n here) left
 
-  answered : (f : Form) → first ≡ firstForm f → here ≡ searchFrom (count - rotations) here → Answered f count size best rotations
-  unfolding searched begun here
-  answered f is e =
-      let whole : here ≡ searched f count size = e ∙ k .rest ∙ ap (λ (g : Form). searchFrom count (at g size g 0)) is in
-      (ap (λ (x : Search). x .best) whole, ap (λ (x : Search). x .rotations) whole)
+  answered : here ≡ searchFrom (count - rotations) here → Answers f count size best rotations
+  unfolding here
+  answered e =
+      let whole : here ≡ searched f count size = e ∙ k .rest in
+      (ap (withTimes f) (k .is-best) ∙ sym (k .same-best) ∙ ap (λ (x : Search). x .best) whole, ap (λ (x : Search). x .rotations) whole)
 
   -- all rotations are made
-  pub going-end : (f : Form) → first ≡ firstForm f → count ≤ rotations → Answered f count size best rotations
+  pub going-end : count ≤ rotations → Answers f count size best rotations
   unfolding searchFrom
-  going-end f is l = let left : 0 ≡ count - rotations = omega arith in answered f is (ap (λ (n : ℕ). searchFrom n here) left)
+  going-end l = let left : 0 ≡ count - rotations = omega arith in answered (ap (λ (n : ℕ). searchFrom n here) left)
 
   -- the search stops
-  stopped : (f : Form) → first ≡ firstForm f → rotations < count → stops here ≡ true → Answered f count size best rotations
-  stopped f is l e = answered f is (sym (one-more l ∙ pick-true (stops here) here _ e))
+  stopped : rotations < count → stops here ≡ true → Answers f count size best rotations
+  stopped l e = answered (sym (one-more l ∙ pick-true (stops here) here _ e))
 
-  module _ (s : ℕ) (halves : s ≡ halved 17 (now .header .length) steps) where
-    stops-is : stops here ≡ eqb s 0 || tooLong now s
+  now-length : now .length ≡ k .at-hand .header .length
+  unfolding timesOf
+  now-length = ap (λ (t : Timetable). t .length) (k .is-now)
+
+  pub going-some : 1 ≤ now .length
+  going-some = omega (arith, now-length, k .good .some)
+
+  module _ (s : ℕ) (halves : s ≡ halved 17 (now .length) steps) where
+    halves-here : s ≡ halved 17 (k .at-hand .header .length) steps
+    halves-here = halves ∙ ap (λ (n : ℕ). halved 17 n steps) now-length
+
+    stops-is : stops here ≡ eqb s 0 || tooLong (k .at-hand) s
     unfolding stops here
-    stops-is = ap (λ (n : ℕ). eqb n 0 || tooLong now n) (sym halves)
+    stops-is = ap (λ (n : ℕ). eqb n 0 || tooLong (k .at-hand) n) (sym halves-here)
 
     -- nothing to rotate
-    pub going-zero : (f : Form) → first ≡ firstForm f → rotations < count → s ≡ 0 → Answered f count size best rotations
-    going-zero f is l e = stopped f is l (stops-is ∙ ap (λ (b : Bool). b || tooLong now s) (eq-eqb s 0 e))
+    pub going-zero : rotations < count → s ≡ 0 → Answers f count size best rotations
+    going-zero l e = stopped l (stops-is ∙ ap (λ (b : Bool). b || tooLong (k .at-hand) s) (eq-eqb s 0 e))
 
-    below : s < now .header .length
-    below = rw halves (halved-below (now .header .length) (k .good .some) steps (k .small))
+    below : s < k .at-hand .header .length
+    below = rw halves-here (halved-below (k .at-hand .header .length) (k .good .some) steps (k .small))
 
-    module _ (t : Form) (is : t ≡ rotatedOr now s) where
-      length-is : t .header .length ≡ rotatedLength now s
-      length-is = ap (λ (g : Form). g .header .length) is ∙ or-length now s
+    -- a size halved and not 0 is one of a rotation
+    pub going-turnable : s ≢ 0 → (edges : ℕ) (from to delays : List ℕ) (first : Timetable) → Begun f edges from to delays first → Turnable (k .at-hand) edges from to delays now s
+    going-turnable n edges from to delays first b =
+        let loop : loopOf (k .at-hand) ≡ loopOf (firstForm f) = same-loop f (k .at-hand) (k .same-now) ∙ sym (same-loop f (firstForm f) (first-same f (b .good) (b .free))) in
+        record {
+          tabled = record {
+            lent = lent-next (firstForm f) (k .at-hand) edges from to delays first now (b .first .lent) loop (k .good .well-formed) (k .is-now);
+            is = k .is-now;
+          };
+          legal = k .good .legal;
+          some = pos-of-ne-zero n;
+          below = below;
+        }
+
+    module _ (t : Timetable) (is : t ≡ timesOf (rotatedOr (k .at-hand) s)) where
+      length-is : t .length ≡ rotatedLength (k .at-hand) s
+      unfolding timesOf
+      length-is = ap (λ (u : Timetable). u .length) is ∙ or-length (k .at-hand) s
 
       -- the rotation is Long
-      pub going-long : (f : Form) → first ≡ firstForm f → rotations < count → 512 < t .header .length → Answered f count size best rotations
+      pub going-long : rotations < count → 512 < t .length → Answers f count size best rotations
       unfolding tooLong
-      going-long f same l long = stopped f same l (stops-is ∙ either (eqb s 0) (tooLong now s) (lt-ltb 512 (rotatedLength now s) (omega (arith, length-is))))
+      going-long l long =
+          stopped l (stops-is ∙ either (eqb s 0) (tooLong (k .at-hand) s) (lt-ltb 512 (rotatedLength (k .at-hand) s) (omega (arith, length-is))))
 
-      module _ (some : s ≢ 0) (short : t .header .length ≤ 512) where
-        fits : tooLong now s ≡ false
+      module _ (some : s ≢ 0) (short : t .length ≤ 512) where
+        fits : tooLong (k .at-hand) s ≡ false
         unfolding tooLong
-        fits = le-ltb 512 (rotatedLength now s) (omega (arith, length-is))
+        fits = le-ltb 512 (rotatedLength (k .at-hand) s) (omega (arith, length-is))
 
-        rotated-is : t ≡ rotated now s
+        rotated-is : t ≡ timesOf (rotated (k .at-hand) s)
         unfolding rotatedOr
-        rotated-is = is ∙ pick-false (tooLong now s) _ _ fits
+        rotated-is = is ∙ ap timesOf (pick-false (tooLong (k .at-hand) s) _ _ fits)
 
-        turned : (b : Form) → b ≡ shorter best t → at t s b (rotations + 1) ≡ turn here
+        next-same : SameButPair f (rotated (k .at-hand) s)
+        next-same = rotated-next (k .at-hand) (k .good .well-formed) (k .good .legal) s (pos-of-ne-zero some) below f (k .same-now)
+
+        turned : at (rotated (k .at-hand) s) s (shorter (k .shortest) (rotated (k .at-hand) s)) (rotations + 1) ≡ turn here
         unfolding turn here
-        turned b choice =
-            ap (λ (g : Form). at t s g (rotations + 1)) choice
-            ∙ ap (λ (g : Form). at g s (shorter best g) (rotations + 1)) rotated-is
-            ∙ ap (λ (u : ℕ). at (rotated now u) u (shorter best (rotated now u)) (rotations + 1)) halves
+        turned = ap (λ (u : ℕ). at (rotated (k .at-hand) u) u (shorter (k .shortest) (rotated (k .at-hand) u)) (rotations + 1)) halves-here
 
         -- one rotation more
-        pub going-turn : rotations < count → (b : Form) → b ≡ shorter best t → (n : ℕ) → n ≡ rotations + 1 → Going first count size t b s n
-        unfolding here
-        going-turn l b choice n more = subst (Going first count size t b s) (sym more) (record {
+        pub going-turn : rotations < count → (b : Timetable) → ((x y : Form) → best ≡ timesOf x → t ≡ timesOf y → b ≡ timesOf (shorter x y)) → (n : ℕ) → n ≡ rotations + 1
+            → Going f count size t b s n
+        unfolding here shorter
+        going-turn l b choice n more = subst (Going f count size t b s) (sym more) (record {
+          at-hand = rotated (k .at-hand) s;
+          shortest = shorter (k .shortest) (rotated (k .at-hand) s);
+          is-now = rotated-is;
+          is-best = choice (k .shortest) (rotated (k .at-hand) s) (k .is-best) rotated-is;
+          good = rotated-good (k .at-hand) (k .good) s (record { some = pos-of-ne-zero some; below = below; fits = fits });
+          same-now = next-same;
+          same-best = pick-ind (SameButPair f) (ltb (rotated (k .at-hand) s .header .length) (k .shortest .header .length)) (rotated (k .at-hand) s) (k .shortest) (λ _. next-same) (λ _. k .same-best);
           within = omega arith;
-          small = rw halves (halved-small (now .header .length) (k .good .some) steps (k .small));
-          good = subst GoodPair (sym rotated-is) (rotated-good now (k .good) s (record { some = pos-of-ne-zero some; below = below; fits = fits }));
+          small = rw halves (halved-small (now .length) going-some steps (k .small));
           rest =
-              ap (searchFrom (count - (rotations + 1))) (turned b choice)
-              ∙ sym (one-more l ∙ pick-false (stops here) here _ (stops-is ∙ fails-or (eqb s 0) (tooLong now s) (ne-eqb s 0 some) fits))
+              ap (searchFrom (count - (rotations + 1))) turned
+              ∙ sym (one-more l ∙ pick-false (stops here) here _ (stops-is ∙ fails-or (eqb s 0) (tooLong (k .at-hand) s) (ne-eqb s 0 some) fits))
               ∙ k .rest;
         })

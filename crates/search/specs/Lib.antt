@@ -3,7 +3,6 @@ pub mod Worked
 pub mod Halved
 pub mod Met
 pub mod Only
-pub mod Kept
 pub mod Good
 pub mod Laws
 pub mod Searching

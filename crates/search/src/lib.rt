@@ -1,22 +1,21 @@
 // Searches: the first schedule, then rotations, and the shortest pair met.
-ghost use mathlib.Core.Bool.{false};
 ghost use mathlib.Core.Path.{_≡_};
 ghost use Prim.Native.Nat.{_≤_};
-ghost use Rattle.form.specs.Ranges.{WellFormed};
-ghost use Rattle.legal.specs.Loop.{loopOf};
-ghost use Rattle.legal.specs.Systems.{knotted};
+ghost use Rattle.form.specs.declared.Form.{Form};
+ghost use Rattle.tables.specs.Times.{timesOf};
+ghost use Rattle.turning.specs.Lending.{Tabled, Unknotted};
 ghost use Rattle.rotation.specs.Scheduling.{Planned, RecordScheduled};
-ghost use Rattle.search.specs.Search.{halved, shorter, searched};
-ghost use Rattle.search.specs.Searching.{searchAsked, searchForm, searchTurns};
+ghost use Rattle.search.specs.Search.{halved, shorter};
+ghost use Rattle.search.specs.Searching.{searchAsked, searchForm, searchTurns, Answers};
 use answer::Cycle;
 use answer::Refusal;
-use form::Form;
 use rotation::Plan;
 use rotation::Scheduled;
+use tables::Timetable;
 
-// The shortest pair that a search of a form met, and the rotations completed.
+// The timetable with the shortest pair that a search of a form met, and the rotations completed.
 pub struct Found {
-    pub form: Form,
+    pub times: Timetable,
     pub rotations: u32,
 }
 
@@ -32,11 +31,11 @@ fn halve(size: u16, length: u16) -> u16
     steps
 }
 
-// The shorter form, the earlier among equals.
-fn shorter_of(old: Form, new: Form) -> Form
-    ensures { λ r. ⌜ r ≡ shorter old new ⌝ }
+// The shorter timetable, the earlier among equals.
+fn shorter_of(old: Timetable, new: Timetable) -> Timetable
+    ensures { λ r. ⌜ ((x y : Form) → old ≡ timesOf x → new ≡ timesOf y → r ≡ timesOf (shorter x y)) ⌝ }
 {
-    if new.header.length < old.header.length {
+    if new.length < old.length {
         return new;
     }
     old
@@ -45,21 +44,29 @@ fn shorter_of(old: Form, new: Form) -> Form
 // Up to `count` rotations from the first schedule on, by the size halved while it is at least the length at hand.
 // A rotation costs at most some N*(N+E) steps for the weights, E+9*N for each of 1023 steps of the list rule, and N*E for
 // the fit, under a million at 64 nodes and 256 edges; a search makes at most `count` of them after the first schedule.
-pub fn search_form(form: Form, count: u16, size: u16) -> Found
-    requires { ⌜ WellFormed form × (knotted (loopOf form) ≡ false) ⌝ }
-    ensures { λ r. ⌜ (r .form ≡ searched form count size .best) × (r .rotations ≡ searched form count size .rotations) ⌝ }
+pub fn search_times<'a>(
+    edges: u16,
+    from: &'a [u8; 256],
+    to: &'a [u8; 256],
+    delays: &'a [u8; 256],
+    times: Timetable,
+    count: u16,
+    size: u16,
+) -> Found
+    requires { ⌜ ((f : Form) × Unknotted f edges (now from) (now to) (now delays) times) ⌝ }
+    ensures { λ r. ⌜ ((f : Form) → Unknotted f edges (now (from .entry)) (now (to .entry)) (now (delays .entry)) times → Answers f count size (r .times) (r .rotations)) ⌝ }
 {
-    let mut now = turning::first_form(form);
+    let mut now = turning::first_times(edges, from, to, delays, times);
     let mut best = now;
     let mut steps = size;
     let mut rotations: u32 = 0;
     while rotations < count as u32 {
-        steps = halve(steps, now.header.length);
+        steps = halve(steps, now.length);
         if steps == 0 {
             break;
         }
-        let turned = turning::rotate_form(now, steps);
-        if 512 < turned.header.length {
+        let turned = turning::rotate_times(edges, from, to, delays, now, steps);
+        if 512 < turned.length {
             break;
         }
         best = shorter_of(best, turned);
@@ -67,29 +74,31 @@ pub fn search_form(form: Form, count: u16, size: u16) -> Found
         rotations += 1;
     }
     Found {
-        form: best,
+        times: best,
         rotations,
     }
 }
 
 // Knot, then Size, else the shortest pair of a search.
-fn search_plan(form: Form, count: u16, size: u16) -> Plan
-    requires { ⌜ WellFormed form ⌝ }
-    ensures { λ r. ⌜ Planned (searchAsked size) (searchForm count size) (searchTurns count size) form r ⌝ }
+fn search_plan<'a>(
+    edges: u16,
+    from: &'a [u8; 256],
+    to: &'a [u8; 256],
+    delays: &'a [u8; 256],
+    times: Timetable,
+    count: u16,
+    size: u16,
+) -> Plan
+    requires { ⌜ ((f : Form) × Tabled f edges (now from) (now to) (now delays) times) ⌝ }
+    ensures { λ r. ⌜ ((f : Form) → Tabled f edges (now (from .entry)) (now (to .entry)) (now (delays .entry)) times → Planned (searchAsked size) (searchForm count size) (searchTurns count size) f r) ⌝ }
 {
-    let knot = knots::knot_of(
-        form.header.nodes,
-        form.header.edges,
-        &form.from,
-        &form.to,
-        &form.delays,
-    );
+    let knot = knots::knot_of(times.nodes, edges, from, to, delays);
     if 0 < knot.count {
         return Plan {
             refusal: Refusal::Knot,
             rotations: 0,
             cycle: knot,
-            form,
+            times,
         };
     }
     if size == 0 {
@@ -97,16 +106,16 @@ fn search_plan(form: Form, count: u16, size: u16) -> Plan
             refusal: Refusal::Size(0),
             rotations: 0,
             cycle: knot,
-            form,
+            times,
         };
     }
-    let found = search_form(form, count, size);
-    let best = found.form;
+    let found = search_times(edges, from, to, delays, times, count, size);
+    let best = found.times;
     Plan {
         refusal: Refusal::None,
         rotations: found.rotations,
         cycle: knot,
-        form: best,
+        times: best,
     }
 }
 
@@ -124,5 +133,15 @@ pub fn search(record: &[u8], count: u16, size: u16, out: &mut [u8]) -> Scheduled
             cycle: Cycle::none(),
         };
     }
-    rotation::write_plan(search_plan(read.form, count, size), out)
+    let times = tables::times_of(read.form);
+    let plan = search_plan(
+        read.form.header.edges,
+        &read.form.from,
+        &read.form.to,
+        &read.form.delays,
+        times,
+        count,
+        size,
+    );
+    rotation::write_plan(read.form, plan, out)
 }

@@ -1,4 +1,4 @@
 pub mod Laws
+pub mod Bare
 pub mod Firsts
-pub mod Turns
 pub mod Rotations

@@ -3,19 +3,17 @@
 use mathlib.Core.Path.{_≡_, refl, sym, ap, subst, _∙_}
 use mathlib.Core.Bool.{true, false}
 use mathlib.Core.Logic.{_⊎_, inl, inr, _≢_}
-use mathlib.Core.List.{List, [], _∷_, map}
-use Prim.Native.Nat.{ℕ, zero, suc, _≤_, _<_}
+use Prim.Native.Nat.{ℕ, _≤_, _<_}
 use native.Mathlib.Decide.{decLt}
 use native.Mathlib.Omega.{arith}
 use lib.Dec.{ltb}
-use lib.ListN.{length, getD, replicate, length-map, length-replicate}
+use lib.ListN.{length, replicate, length-map, length-replicate}
 use Rattle.lists.specs.Pick.{pick, pick-ind, pick-true}
 use Rattle.lists.specs.Place.{zeros-at}
 use Rattle.answer.specs.Refused.{fine}
 use Rattle.answer.specs.declared.Refusal.{Refusal}
 use Rattle.answer.specs.declared.Refusal.the-variants.{None, Room}
 use Rattle.form.specs.declared.Form.{Form}
-use Rattle.form.specs.Places.{noStep}
 use Rattle.form.specs.Ranges.{WellFormed}
 use Rattle.reader.specs.Reading.{readForm}
 use Rattle.reader.specs.declared.Record.{Record}
@@ -35,25 +33,18 @@ use Rattle.list_rule.specs.Ends.{length-ends}
 use Rattle.list_rule.specs.Filling.{Filled, staffed-form}
 use Rattle.list_rule.specs.FirstLegal.{unretimed, firstStarts, firstPair, first-filled, first-length, first-legal}
 use Rattle.turning.specs.TurnedLegal.{rule-past}
-use Rattle.turning.specs.Pairs.{asBodyStep, withPair}
+use Rattle.turning.specs.Pairs.{asBodyStep, withPair, SameButPair, StartTable, step-at, pair-back}
 use Rattle.turning.specs.Rotation.{firstForm}
 
--- a table of numbers as steps
-pub step-at : (s : List ℕ) (v : ℕ) → getD (map asBodyStep s) v noStep .0 ≡ getD s v 0
-step-at [] v = refl
-step-at (x ∷ xs) zero = refl
-step-at (x ∷ xs) (suc v) = step-at xs v
-
 -- the table of first starts has its places, and 0 past the nodes
-first-long : (g : Loop) → length (firstStarts g) ≡ 64
+pub first-table : (g : Loop) → StartTable (g .graph .nodes) (firstStarts g)
 unfolding firstStarts listRule
-first-long g =
+first-table g =
     let z : ℕ = 0 in
-    fill-length g unretimed _ 1023 1 (replicate 64 0) ∙ length-replicate 64 z
-
-first-past : (g : Loop) (v : ℕ) → g .graph .nodes ≤ v → startNumber (firstStarts g) v ≡ 0
-unfolding firstStarts
-first-past g v h = rule-past g unretimed v h (replicate 64 0) ∙ zeros-at 64 v
+    record {
+      long = fill-length g unretimed _ 1023 1 (replicate 64 0) ∙ length-replicate 64 z;
+      past = λ v h. rule-past g unretimed v h (replicate 64 0) ∙ zeros-at 64 v;
+    }
 
 module _ (f : Form) (w : WellFormed f) (free : knotted (loopOf f) ≡ false) where
   filled : Filled (loopOf f) (firstStarts (loopOf f)) 512
@@ -63,6 +54,11 @@ module _ (f : Form) (w : WellFormed f) (free : knotted (loopOf f) ≡ false) whe
   pub first-form-length : (1 ≤ firstForm f .header .length) × (firstForm f .header .length ≤ 512)
   unfolding firstForm withPair
   first-form-length = first-length (loopOf f) (sound-form f w) (staffed-form f w) free
+
+  -- only its pair is another
+  pub first-same : SameButPair f (firstForm f)
+  unfolding firstForm loopOf graphOf
+  first-same = pair-back f (w .nodes .1) (firstStarts (loopOf f)) (first-table (loopOf f)) (lengthOf (loopOf f) (firstStarts (loopOf f))) (replicate 64 0)
 
   -- no start is late
   pub first-soon : (v : ℕ) → v < f .header .nodes → startNumber (firstStarts (loopOf f)) v ≤ 513
@@ -95,7 +91,7 @@ module _ (f : Form) (w : WellFormed f) (free : knotted (loopOf f) ≡ false) whe
   small-start v =
       elim (decLt v (f .header .nodes)) [
         | yes l ↦ omega (arith, first-soon v l)
-        | no l ↦ omega (arith, first-past (loopOf f) v (omega arith))
+        | no l ↦ omega (arith, first-table (loopOf f) .past v (omega arith))
       ]
 
   -- it can be held where the form can
@@ -108,7 +104,7 @@ module _ (f : Form) (w : WellFormed f) (free : knotted (loopOf f) ≡ false) whe
       from = h .sized .from;
       to = h .sized .to;
       delays = h .sized .delays;
-      start = length-map (firstStarts (loopOf f)) asBodyStep ∙ first-long (loopOf f);
+      start = length-map (firstStarts (loopOf f)) asBodyStep ∙ first-table (loopOf f) .long;
       retiming = refl;
     };
     classes = h .classes;

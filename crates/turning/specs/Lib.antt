@@ -1,7 +1,8 @@
+pub mod Pairs
 pub mod Turned
 pub mod TurnedLegal
-pub mod Pairs
 pub mod Rotation
+pub mod Lending
 pub mod Worked
 pub mod FirstLaws
 pub mod SameRule

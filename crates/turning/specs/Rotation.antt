@@ -8,12 +8,12 @@ use lib.ListN.{replicate}
 use Rattle.lists.specs.Pick.{pick}
 use Rattle.form.specs.declared.Form.{Form}
 use Rattle.legal.specs.Loop.{plain, loopOf, pairOf}
+use Rattle.tables.specs.Times.{timesOf}
 use Rattle.fit.specs.Retimed.{retimings}
 use Rattle.list_rule.specs.Rule.{startNumber, lengthOf}
 use Rattle.list_rule.specs.FirstLegal.{firstStarts}
 use Rattle.turning.specs.Turned.{gainedBy}
 use Rattle.turning.specs.TurnedLegal.{turnedStarts}
-use Rattle.list_rule.specs.Tables.{startsOf}
 use Rattle.turning.specs.Pairs.{withPair}
 
 -- the list rule with all retimings 0
@@ -23,7 +23,7 @@ firstForm f = withPair f (firstStarts (loopOf f)) (lengthOf (loopOf f) (firstSta
 module _ (f : Form) (z : ℕ) where
   -- nodes with start at most z gain 1; the others' starts drop by z and stay; the list rule places the rotated nodes
   unfoldable pub rotatedStarts : List ℕ
-  rotatedStarts = turnedStarts (loopOf f) (pairOf f) z (startsOf f)
+  rotatedStarts = turnedStarts (loopOf f) (pairOf f) z (timesOf f .start)
 
   -- the length is taken anew
   unfoldable pub rotatedLength : ℕ

@@ -16,6 +16,7 @@ use Rattle.system.specs.Turned.{topOf, turnedAt}
 use Rattle.form.specs.Hold.{hold}
 use Rattle.legal.specs.Loop.{graphOf, loopOf, pairOf}
 use Rattle.legal.specs.Systems.{lateness, limits}
+use Rattle.tables.specs.Times.{timesOf}
 use Rattle.fit.specs.Retimed.{retimings}
 use Rattle.reach.specs.Weight.{tight, spread, sweep, reach, reachedFrom, weight}
 use Rattle.list_rule.specs.Order.{insert, orderOf}
@@ -43,5 +44,5 @@ pub worked : (pairIn (firstForm smallForm) ≡ 4 ∷ 1 ∷ 3 ∷ 4 ∷ 0 ∷ 0 �
     × (pairIn (rotated (firstForm smallForm) 1) ≡ 3 ∷ 1 ∷ 2 ∷ 3 ∷ 1 ∷ 0 ∷ 0 ∷ [])
     × (pairIn (rotated (rotated (firstForm smallForm) 1) 1) ≡ 4 ∷ 3 ∷ 1 ∷ 2 ∷ 1 ∷ 0 ∷ 0 ∷ [])
     × (pairIn (rotated (rotated (firstForm smallForm) 1) 2) ≡ 3 ∷ 2 ∷ 2 ∷ 1 ∷ 2 ∷ 1 ∷ 0 ∷ [])
-unfolding smallForm pairIn emptyForm pick span count fold top hold graphOf loopOf pairOf lateness limits asks raise raiseAll raises everyEdge round settleFrom settledOf topOf turnedAt filled retimings tight spread sweep reach reachedFrom weight insert orderOf uses inUse free blocks ready place fillStep allPlaced fillFrom listRule lengthOf firstStarts numbersOf startsOf withPair firstForm gainedBy droppedBy turnedStarts rotatedStarts rotatedLength rotated tooLong
+unfolding smallForm pairIn emptyForm pick span count fold top hold graphOf loopOf pairOf lateness limits asks raise raiseAll raises everyEdge round settleFrom settledOf topOf turnedAt filled retimings tight spread sweep reach reachedFrom weight insert orderOf uses inUse free blocks ready place fillStep allPlaced fillFrom listRule lengthOf firstStarts numbersOf startsOf timesOf withPair firstForm gainedBy droppedBy turnedStarts rotatedStarts rotatedLength rotated tooLong
 worked = (refl, refl, refl, refl)

@@ -1,34 +1,30 @@
-// A form's first schedule, and its rotations: bodies by the list rule, with the retiming that fits them.
-ghost use mathlib.Core.Bool.{false};
-ghost use mathlib.Core.Logic.{_≢_};
+// First schedules and rotations of a form that is lent: bodies by the list rule, with the retiming that fits them.
 ghost use mathlib.Core.Path.{_≡_};
 ghost use Prim.Native.Nat.{ℕ, _+_, _-_, _≤_, _<_};
 ghost use lib.Dec.{leb};
-ghost use lib.ListN.{getD};
+ghost use lib.ListN.{getD, replicate};
 ghost use Rattle.lists.specs.Pick.{pick};
-ghost use Rattle.form.specs.Ranges.{WellFormed};
-ghost use Rattle.legal.specs.Legal.{Legal};
-ghost use Rattle.legal.specs.Loop.{loopOf, pairOf};
-ghost use Rattle.legal.specs.Systems.{knotted};
-ghost use Rattle.list_rule.specs.Rule.{startNumber, lengthOf};
-ghost use Rattle.list_rule.specs.Tables.{numbersOf};
-ghost use Rattle.turning.specs.Turned.{gainedBy, droppedBy};
-ghost use Rattle.turning.specs.Pairs.{withPair};
+ghost use Rattle.lists.specs.Filled.{filled};
+ghost use Rattle.form.specs.declared.Form.{Form};
+ghost use Rattle.legal.specs.Loop.{Loop, Pair, latency as latencyIn};
+ghost use Rattle.tables.specs.Edges.{Ends};
+ghost use Rattle.tables.specs.Times.{SoundTimes, timesOf};
+ghost use Rattle.list_rule.specs.Rule.{listRule, lengthOf};
+ghost use Rattle.list_rule.specs.Tables.{EndsInBody};
+ghost use Rattle.turning.specs.Pairs.{timesWith};
 ghost use Rattle.turning.specs.Rotation.{firstForm, turnedForm, rotatedOr};
-use form::BodyStep;
-use form::Form;
+ghost use Rattle.turning.specs.Lending.{EndSoon, Placeable, Unknotted, Turnable};
+use tables::Timetable;
 
 // The length of a body: the last step in which a node that starts as given is at work.
-fn length_of(form: Form, start: [BodyStep; 64]) -> u16
-    requires { ⌜ WellFormed form ⌝ }
-    requires { ⌜ ((v : ℕ) → v < form .header .nodes → startNumber (numbersOf start) v ≤ 1023) ⌝ }
-    ensures { λ r. ⌜ r ≡ lengthOf (loopOf form) (numbersOf start) ⌝ }
+fn length_of<'a>(nodes: u8, latency: &'a [u8; 64], start: &'a [u16; 64]) -> u16
+    requires { ⌜ EndSoon nodes (now latency) (now start) ⌝ }
+    ensures { λ r. ⌜ ((g : Loop) → g .graph .nodes ≡ nodes → ((v : ℕ) → v < nodes → latencyIn g v ≡ getD (now (latency .entry)) v 0) → r ≡ lengthOf g (now (start .entry))) ⌝ }
 {
     let mut last: u16 = 0;
-    for v in 0..form.header.nodes {
+    for v in 0..nodes {
         let i = v as usize;
-        let class = form.class[form.node[i].class as usize];
-        let end = start[i].0 + class.latency as u16 - 1;
+        let end = start[i] + latency[i] as u16 - 1;
         if last < end {
             last = end;
         }
@@ -36,25 +32,46 @@ fn length_of(form: Form, start: [BodyStep; 64]) -> u16
     last
 }
 
-// The form with the starts, length and retimings given.
-fn with_pair(mut form: Form, start: [BodyStep; 64], length: u16, retiming: [u8; 64]) -> Form
-    ensures { λ r. ⌜ r ≡ withPair form (numbersOf start) length retiming ⌝ }
+// The timetable with the starts, length and retimings given.
+fn with_pair(mut times: Timetable, start: [u16; 64], length: u16, retiming: [u8; 64]) -> Timetable
+    ensures { λ r. ⌜ r ≡ timesWith times start length retiming ⌝ }
 {
-    form.header.length = length;
-    form.start = start;
-    form.retiming = retiming;
-    form
+    times.length = length;
+    times.start = start;
+    times.retiming = retiming;
+    times
 }
 
-// The form with its first schedule: the list rule with all retimings 0.
-pub fn first_form(form: Form) -> Form
-    requires { ⌜ WellFormed form × (knotted (loopOf form) ≡ false) ⌝ }
-    ensures { λ r. ⌜ r ≡ firstForm form ⌝ }
+// The timetable with its nodes placed by the list rule, its length taken anew, and retimings 0.
+fn placed<'a>(
+    edges: u16,
+    from: &'a [u8; 256],
+    to: &'a [u8; 256],
+    delays: &'a [u8; 256],
+    times: Timetable,
+) -> Timetable
+    requires { ⌜ Ends (times .nodes) edges (now from) (now to) × SoundTimes times × EndsInBody times ⌝ }
+    requires { ⌜ ((g : Loop) × ((p : Pair) × Placeable g p edges (now from) (now to) (now delays) times)) ⌝ }
+    ensures { λ r. ⌜ ((g : Loop) (p : Pair) → Placeable g p edges (now (from .entry)) (now (to .entry)) (now (delays .entry)) times → r ≡ timesWith times (listRule g (p .retiming) (times .start)) (lengthOf g (listRule g (p .retiming) (times .start))) (replicate 64 0)) ⌝ }
 {
-    let bare = with_pair(form, [BodyStep(0); 64], 0, [0; 64]);
-    let start = list_rule::list_rule(bare, reach::weights(bare));
-    let length = length_of(bare, start);
-    with_pair(form, start, length, [0; 64])
+    let start = list_rule::list_rule(edges, from, to, delays, times);
+    let length = length_of(times.nodes, &times.latency, &start);
+    with_pair(times, start, length, [0; 64])
+}
+
+// The timetable of the form's first schedule: the list rule with all retimings 0.
+pub fn first_times<'a>(
+    edges: u16,
+    from: &'a [u8; 256],
+    to: &'a [u8; 256],
+    delays: &'a [u8; 256],
+    times: Timetable,
+) -> Timetable
+    requires { ⌜ ((f : Form) × Unknotted f edges (now from) (now to) (now delays) times) ⌝ }
+    ensures { λ r. ⌜ ((f : Form) → Unknotted f edges (now (from .entry)) (now (to .entry)) (now (delays .entry)) times → r ≡ timesOf (firstForm f)) ⌝ }
+{
+    let bare = with_pair(times, [0; 64], 0, [0; 64]);
+    placed(edges, from, to, delays, bare)
 }
 
 // What is left of a start, 0 at least.
@@ -67,14 +84,15 @@ fn less(start: u16, steps: u16) -> u16
     start - steps
 }
 
-// The starts less so many steps; 0 is a node to place anew.
-fn dropped(start: [BodyStep; 64], steps: u16) -> [BodyStep; 64]
-    ensures { λ r. ⌜ numbersOf r ≡ droppedBy steps (numbersOf start) ⌝ }
+// The starts of the nodes less so many steps; 0 is a node to place anew, and stands past the nodes.
+fn dropped(nodes: u8, start: &[u16; 64], steps: u16) -> [u16; 64]
+    requires { ⌜ nodes ≤ 64 ⌝ }
+    ensures { λ r. ⌜ r ≡ filled 64 (λ v. getD (now (start .entry)) v 0 - steps) nodes ⌝ }
 {
-    let mut lower = start;
-    for v in 0..64u8 {
+    let mut lower = [0u16; 64];
+    for v in 0..nodes {
         let i = v as usize;
-        lower[i] = BodyStep(less(start[i].0, steps));
+        lower[i] = less(start[i], steps);
     }
     lower
 }
@@ -90,47 +108,55 @@ fn gain(retiming: u8, start: u16, steps: u16) -> u8
     retiming
 }
 
-// The retimings of the nodes, 1 more for those that start in the first steps.
-fn gained(form: Form, steps: u16) -> [u8; 64]
-    requires { ⌜ WellFormed form × (form .header .length ≢ 0) ⌝ }
-    ensures { λ r. ⌜ ((v : ℕ) → v < form .header .nodes → getD r v 0 ≡ gainedBy (pairOf form) steps v) ⌝ }
+// The retimings of the nodes, 1 more for those that start in the first steps; 0 past the nodes.
+fn gained<'a>(nodes: u8, retiming: &'a [u8; 64], start: &'a [u16; 64], steps: u16) -> [u8; 64]
+    requires { ⌜ (nodes ≤ 64) × ((v : ℕ) → v < nodes → getD (now retiming) v 0 ≤ 63) ⌝ }
+    ensures { λ r. ⌜ r ≡ filled 64 (λ v. getD (now (retiming .entry)) v 0 + pick (leb (getD (now (start .entry)) v 0) steps) 1 0) nodes ⌝ }
 {
-    let mut retiming = form.retiming;
-    for v in 0..form.header.nodes {
+    let mut raised = [0u8; 64];
+    for v in 0..nodes {
         let i = v as usize;
-        retiming[i] = gain(form.retiming[i], form.start[i].0, steps);
+        raised[i] = gain(retiming[i], start[i], steps);
     }
-    retiming
+    raised
 }
 
-// The form with its starts rotated, its length taken anew, and retimings 0.
-fn turn_form(form: Form, steps: u16) -> Form
-    requires { ⌜ WellFormed form × Legal (loopOf form) (pairOf form) ⌝ }
-    requires { ⌜ (1 ≤ steps) × (steps < form .header .length) ⌝ }
-    ensures { λ r. ⌜ r ≡ turnedForm form steps ⌝ }
+// The timetable of the form with its starts rotated, its length taken anew, and retimings 0.
+fn turn_times<'a>(
+    edges: u16,
+    from: &'a [u8; 256],
+    to: &'a [u8; 256],
+    delays: &'a [u8; 256],
+    times: Timetable,
+    steps: u16,
+) -> Timetable
+    requires { ⌜ ((f : Form) × Turnable f edges (now from) (now to) (now delays) times steps) ⌝ }
+    ensures { λ r. ⌜ ((f : Form) → Turnable f edges (now (from .entry)) (now (to .entry)) (now (delays .entry)) times steps → r ≡ timesOf (turnedForm f steps)) ⌝ }
 {
-    let start = form.start;
-    let lower = dropped(start, steps);
-    let raised = gained(form, steps);
-    let bare = with_pair(form, lower, 0, raised);
-    let start = list_rule::list_rule(bare, reach::weights(bare));
-    let length = length_of(bare, start);
-    with_pair(form, start, length, [0; 64])
+    let lower = dropped(times.nodes, &times.start, steps);
+    let raised = gained(times.nodes, &times.retiming, &times.start, steps);
+    let bare = with_pair(times, lower, 0, raised);
+    placed(edges, from, to, delays, bare)
 }
 
-// The form rotated by so many steps; no retiming is fitted to more than 512 steps.
-pub fn rotate_form(form: Form, steps: u16) -> Form
-    requires { ⌜ WellFormed form × Legal (loopOf form) (pairOf form) ⌝ }
-    requires { ⌜ (1 ≤ steps) × (steps < form .header .length) ⌝ }
-    ensures { λ r. ⌜ r ≡ rotatedOr form steps ⌝ }
+// The timetable of the form rotated by so many steps; no retiming is fitted to more than 512 steps.
+pub fn rotate_times<'a>(
+    edges: u16,
+    from: &'a [u8; 256],
+    to: &'a [u8; 256],
+    delays: &'a [u8; 256],
+    times: Timetable,
+    steps: u16,
+) -> Timetable
+    requires { ⌜ ((f : Form) × Turnable f edges (now from) (now to) (now delays) times steps) ⌝ }
+    ensures { λ r. ⌜ ((f : Form) → Turnable f edges (now (from .entry)) (now (to .entry)) (now (delays .entry)) times steps → r ≡ timesOf (rotatedOr f steps)) ⌝ }
 {
-    let turned = turn_form(form, steps);
-    let length = turned.header.length;
-    if 512 < length {
+    let mut turned = turn_times(edges, from, to, delays, times, steps);
+    if 512 < turned.length {
         return turned;
     }
-    let fitting = fit::fit_starts(turned);
-    let start = turned.start;
+    let fitting = fit::fit_starts(edges, from, to, delays, turned);
     let retiming = fitting.retiming;
-    with_pair(form, start, length, retiming)
+    turned.retiming = retiming;
+    turned
 }

@@ -1,51 +1,55 @@
 -- `list_rule::busy_of` meets its contract: the nodes passed are in use.
 -- Assumes nothing.
+use mathlib.Core.Path.{_∙_}
 use Prim.Native.Nat.{_≤_, _-_}
 use native.Mathlib.Omega.{arith}
 use borrow.Author.Needs.{needs}
-use Rattle.list_rule.specs.Tables.{startsOf, Used}
-use Rattle.list_rule.proofs.Laws.{start-at}
-use Rattle.list_rule.proofs.Units.{Board, board-of, used-none, used-more, used-all, used-fits}
+use Rattle.list_rule.specs.Tables.{OnBoard, Used}
+use Rattle.list_rule.proofs.Units.{used-none, used-more, used-all, used-fits}
 use Rattle.list_rule.proofs.busy_of.Statement.{statement}
 use Rattle.list_rule.proofs.busy_of.Tie as tie
 
 abbrev Inv-loop : tie.InvT-loop
-Inv-loop form busy₀ v₀ v-end busy v = (v ≤ form .header .nodes) × Used form (startsOf form) v busy
+Inv-loop nodes runs start classes busy₀ v₀ busy v = (v ≤ nodes) × Used classes runs start v busy
 
 abbrev μ-loop : tie.MeasureT-loop
-μ-loop form busy₀ v₀ v-end busy v = form .header .nodes - v
+μ-loop nodes runs start classes busy₀ v₀ busy v = nodes - v
 
 loop-holds : tie.Need-loop-holds Inv-loop μ-loop
-loop-holds c = (search needs, used-none _ _ _ (c .idle .ensures .0) (c .idle .ensures .1))
+loop-holds c = (search needs, used-none _ _ _ _ (c .idle .ensures .0) (c .idle .ensures .1))
 
-board : (c : tie.In-loop Inv-loop μ-loop) → Board (c .before .before .before .args .t1) (c .before .loop .v)
-board c = board-of _ (c .before .before .before .pre .0) _ (c .loop-test .taken)
+board : (c : tie.In-loop Inv-loop μ-loop) → OnBoard (c .before .before .before .args .t2) (c .before .before .before .args .runs .now) (c .before .loop .v)
+board c = c .before .before .before .pre .1 (c .before .loop .v) (c .loop-test .taken) .0
 
 cast-class : tie.Need-cast-class Inv-loop μ-loop
-cast-class c = omega (arith, board c .class-in)
+cast-class c = omega (arith, board (c .before) .class-in)
 
 mul-class : tie.Need-mul-class Inv-loop μ-loop
-mul-class c = omega (arith, board c .class-in)
+mul-class c = omega (arith, board (c .before) .class-in)
 
-element-copy-out-class : tie.Need-element-copy-out-class Inv-loop μ-loop
-element-copy-out-class c = board c .class-in
+array-copy-out-class : tie.Need-array-copy-out-class Inv-loop μ-loop
+array-copy-out-class c = board (c .before) .class-in
+
+-- what is had of the node before it is raised
+abbrev met : tie.After-wide Inv-loop μ-loop → tie.In-loop Inv-loop μ-loop
+met c = c .before .before .before .before .before .before
 
 raise-requires : tie.Need-raise-requires Inv-loop μ-loop
 raise-requires c κs =
-    let l = c .before .before .before .before in
-    let k = board (c .before .before .before) in
-    let w = l .before .before .pre in (
-      (l .loop .inv .1 .size, k .class-in, omega (arith, c .hold-of .ensures, w .1 .at (l .loop .v) (omega arith))),
-      λ q h. used-fits _ _ _ _ (omega (arith, w .0 .nodes)) (l .loop .inv .1) _ q (k .class-in) h,
+    let l = met c .before .loop in
+    let k = board (met c) in
+    let w = met c .before .before .before .pre in (
+      (l .inv .1 .size, k .class-in, omega (arith, c .wide .ensures .0, c .before .hold-of .ensures, k .hold-in, w .1 (l .v) (met c .loop-test .taken) .1)),
+      λ q h. used-fits _ _ _ (l .v) _ (omega (arith, w .0, met c .loop-test .taken)) (l .inv .1) _ q (k .class-in) h,
     )
 
 loop-again : tie.Need-loop-again Inv-loop μ-loop
 loop-again c =
-    let l = c .before .before .before .before .before in
-    (search needs, used-more _ _ _ _ _ _ _ (start-at _ _) (c .before .hold-of .ensures) (l .loop .inv .1) (c .raise .ensures))
+    let l = met (c .before) .before .loop in
+    (omega (arith, met (c .before) .loop-test .taken), used-more _ _ _ _ _ _ _ (c .before .wide .ensures .0 ∙ c .before .before .hold-of .ensures) (l .inv .1) (c .raise .ensures))
 
 returns : tie.Need-returns Inv-loop μ-loop
-returns c = used-all _ _ _ _ _ (omega arith) (c .before .loop .inv .1)
+returns c = used-all _ _ _ _ _ _ (omega arith) (c .before .loop .inv .1)
 
 pub busy-of-spec : {M : Type 1} → statement M
 busy-of-spec =
@@ -57,12 +61,12 @@ busy-of-spec =
     loop-holds
     (λ c. search needs)
     (λ c. search needs)
-    (λ c. search needs)
     cast-class
     mul-class
-    element-copy-out-class
+    array-copy-out-class
     (λ c. search needs)
     (λ c. search needs)
+    (λ c κs. search needs)
     (λ c κs. search needs)
     raise-requires
     (λ c. search needs)

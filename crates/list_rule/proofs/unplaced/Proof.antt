@@ -11,8 +11,7 @@ use borrow.Author.Tests.{eq-eqb, ne-eqb}
 use Rattle.lists.specs.Span.{span}
 use Rattle.lists.specs.Fold.{count}
 use Rattle.list_rule.specs.Rule.{startNumber}
-use Rattle.list_rule.specs.Tables.{numbersOf}
-use Rattle.list_rule.proofs.Laws.{number-at, adds-one, adds-none, count-more}
+use Rattle.list_rule.proofs.Laws.{adds-one, adds-none, count-more}
 use Rattle.list_rule.proofs.unplaced.Statement.{statement}
 use Rattle.list_rule.proofs.unplaced.Tie as tie
 
@@ -21,7 +20,7 @@ abbrev unplacedOf : List ℕ → ℕ → ℕ
 unplacedOf s v = count (λ u. eqb (startNumber s u) 0) (span 0 v)
 
 abbrev Inv-loop : tie.InvT-loop
-Inv-loop nodes start left₀ v₀ left v = (v ≤ nodes) × (left ≤ v) × (left ≡ unplacedOf (numbersOf start) v)
+Inv-loop nodes start left₀ v₀ left v = (v ≤ nodes) × (left ≤ v) × (left ≡ unplacedOf start v)
 
 abbrev μ-loop : tie.MeasureT-loop
 μ-loop nodes start left₀ v₀ left v = nodes - v
@@ -32,13 +31,13 @@ loop-holds c = (search needs, search needs, refl)
 
 loop-again : tie.Need-loop-again Inv-loop μ-loop
 loop-again c =
-    let l = c .before .before in
+    let l = c .before .before .before in
     let a = l .before .args in
-    let more = count-more (λ u. eqb (startNumber (numbersOf (a .t2)) u) 0) (l .loop .v) in
-    let at = number-at (a .t2) (l .loop .v) in
+    let s = a .start .now in
+    let more = count-more (λ u. eqb (startNumber s u) 0) (l .loop .v) in
     ⊎-elim
-    (λ w. omega (arith, more, adds-one _ (eq-eqb (startNumber (numbersOf (a .t2)) (l .loop .v)) 0 (omega arith))))
-    (λ w. omega (arith, more, adds-none _ (ne-eqb (startNumber (numbersOf (a .t2)) (l .loop .v)) 0 (λ e. w .0 .left (omega arith)))))
+    (λ w. omega (arith, more, adds-one _ (eq-eqb (startNumber s (l .loop .v)) 0 (omega arith))))
+    (λ w. omega (arith, more, adds-none _ (ne-eqb (startNumber s (l .loop .v)) 0 (λ e. w .0 .left (omega arith)))))
     (c .if1 .came)
 
 returns : tie.Need-returns Inv-loop μ-loop

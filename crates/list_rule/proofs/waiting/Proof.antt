@@ -4,17 +4,17 @@ use Prim.Native.Nat.{_≤_, _<_, _-_}
 use native.Mathlib.Omega.{arith}
 use lib.ListN.{getD}
 use borrow.Author.Needs.{needs}
-use Rattle.list_rule.specs.Tables.{numbersOf, WaitsTabled}
+use Rattle.list_rule.specs.Tables.{WaitsTabled}
 use Rattle.list_rule.proofs.Waits.{waits-none, waits-more, waits-all, waits-fits}
 use Rattle.list_rule.proofs.waiting.Statement.{statement}
 use Rattle.list_rule.proofs.waiting.Tie as tie
 
 abbrev Inv-loop : tie.InvT-loop
-Inv-loop edges from to delays retiming latency step start waits₀ e₀ waits e =
-    (e ≤ edges) × WaitsTabled from to delays retiming latency (numbersOf start) step e waits
+Inv-loop edges from to delays retiming latency start step waits₀ e₀ waits e =
+    (e ≤ edges) × WaitsTabled from to delays retiming latency start step e waits
 
 abbrev μ-loop : tie.MeasureT-loop
-μ-loop edges from to delays retiming latency step start waits₀ e₀ waits e = edges - e
+μ-loop edges from to delays retiming latency start step waits₀ e₀ waits e = edges - e
 
 loop-holds : tie.Need-loop-holds Inv-loop μ-loop
 loop-holds c = (search needs, waits-none _ _ _ _ _ _ _)
@@ -45,26 +45,30 @@ element-copy-out-blocked-4 : tie.Need-element-copy-out-blocked-4 Inv-loop μ-loo
 element-copy-out-blocked-4 c = omega (arith, tail-in (c .before .before .before .before .before))
 
 element-copy-out-blocked-5 : tie.Need-element-copy-out-blocked-5 Inv-loop μ-loop
-element-copy-out-blocked-5 c = omega (arith, tail-in (c .before .before .before .before .before))
+element-copy-out-blocked-5 c = omega (arith, tail-in (c .before .before .before .before .before .before))
+
+-- the edge that was asked
+abbrev met : tie.After-blocked Inv-loop μ-loop → tie.In-loop Inv-loop μ-loop
+met c = c .before .before .before .before .before .before .before .before
 
 mul-waits : tie.Need-mul-waits Inv-loop μ-loop
-mul-waits c = omega (arith, head-in (c .before .before .before .before .before .before .before))
+mul-waits c = omega (arith, head-in (met c))
 
 array-read-waits : tie.Need-array-read-waits Inv-loop μ-loop
-array-read-waits c = omega (arith, head-in (c .before .before .before .before .before .before .before))
+array-read-waits c = omega (arith, head-in (met c))
 
 add-waits : tie.Need-add-waits Inv-loop μ-loop
 add-waits c =
-    let l = c .before .before .before .before .before .before .before .before in
-    omega (arith, waits-fits _ _ _ _ _ _ _ _ _ (l .loop .inv .1) _ (c .blocked .ensures) (head-in (c .before .before .before .before .before .before .before)), l .before .pre .few)
+    let l = met c .before in
+    omega (arith, waits-fits _ _ _ _ _ _ _ _ _ (l .loop .inv .1) _ (c .blocked .ensures) (head-in (met c)), l .before .pre .few)
 
 array-write-waits : tie.Need-array-write-waits Inv-loop μ-loop
-array-write-waits c = omega (arith, head-in (c .before .before .before .before .before .before .before))
+array-write-waits c = omega (arith, head-in (met c))
 
 loop-again : tie.Need-loop-again Inv-loop μ-loop
 loop-again c =
-    let l = c .before .before .before .before .before .before .before .before in
-    (search needs, waits-more _ _ _ _ _ _ _ _ _ (l .loop .inv .1) _ (c .blocked .ensures) (head-in (c .before .before .before .before .before .before .before)))
+    let l = met c .before in
+    (search needs, waits-more _ _ _ _ _ _ _ _ _ (l .loop .inv .1) _ (c .blocked .ensures) (head-in (met c)))
 
 returns : tie.Need-returns Inv-loop μ-loop
 returns c = waits-all _ _ _ _ _ _ _ _ _ _ (omega arith) (c .before .loop .inv .1)

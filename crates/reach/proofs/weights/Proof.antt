@@ -1,52 +1,59 @@
 -- `reach::weights` meets its contract: the places passed are filled.
 -- Assumes nothing.
 use mathlib.Core.Path.{_≡_}
-use Prim.Native.Nat.{_≤_, _-_}
+use Prim.Native.Nat.{ℕ, _≤_, _-_}
 use native.Mathlib.Omega.{arith}
 use lib.ListN.{length}
 use borrow.Author.Needs.{needs}
-use Rattle.form.specs.Places.{retimingOf}
-use Rattle.legal.specs.Loop.{loopOf}
-use Rattle.reach.specs.Weight.{weight}
 use Rattle.lists.specs.Filled.{filled, fill-none, fill-more}
-use Rattle.reach.proofs.Laws.{fits-form, weight-form, weights-form}
+use Rattle.legal.specs.Loop.{Loop}
+use Rattle.tables.specs.Edges.{Told}
+use Rattle.reach.specs.Weight.{weight}
+use Rattle.reach.specs.Tables.{Retimed, ends-wide}
+use Rattle.reach.proofs.Laws.{heads-linked, tells-tight, weights-all}
 use Rattle.reach.proofs.weights.Statement.{statement}
 use Rattle.reach.proofs.weights.Tie as tie
 
 abbrev Inv-loop : tie.InvT-loop
-Inv-loop form tights out weights₀ v₀ v-end weights v =
-    (v-end ≡ form .header .nodes) × (v ≤ form .header .nodes) × (length weights ≡ 64) × (weights ≡ filled 64 (weight (loopOf form) (retimingOf form)) v)
+Inv-loop nodes edges from to delays retiming tights out weights₀ v₀ weights v =
+    (v ≤ nodes) × (length weights ≡ 64)
+    × ((g : Loop) (r : ℕ → ℕ) → Told g nodes edges from to delays → Retimed r nodes retiming → weights ≡ filled 64 (weight g r) v)
 
 abbrev μ-loop : tie.MeasureT-loop
-μ-loop form tights out weights₀ v₀ v-end weights v = v-end - v
+μ-loop nodes edges from to delays retiming tights out weights₀ v₀ weights v = nodes - v
+
+tights-of-requires : tie.Need-tights-of-requires Inv-loop μ-loop
+tights-of-requires c κs = ends-wide _ _ _ _ (c .pre)
 
 links-of-requires : tie.Need-links-of-requires Inv-loop μ-loop
 links-of-requires c κs =
-    let w = c .before .before .before .pre in
-    (w .edges, λ e l. omega (arith, w .nodes, w .edge e l))
+    let w = ends-wide _ _ _ _ (c .before .pre) in
+    (w .few, w .tail-in)
 
 loop-holds : tie.Need-loop-holds Inv-loop μ-loop
-loop-holds c = (search needs, search needs, search needs, fill-none _ _)
+loop-holds c = (search needs, search needs, λ g r told retimed. fill-none _ _)
 
 weight-of-requires : tie.Need-weight-of-requires Inv-loop μ-loop
 weight-of-requires c κs =
-    let s = c .before .before .before .before .before .before .before .before in
-    let w = s .before .before .before .before .pre in
-    (search needs, search needs, fits-form _ _ _ _ _ w (s .links-of .ensures .chains) (λ e l. omega (arith, w .nodes, w .edge e l)))
+    let out = c .before .before .before .before .before .before in
+    let ends = out .before .before .pre in
+    (search needs, ends .most, heads-linked _ _ _ _ ends _ _ (out .links-of .ensures .chains))
 
 loop-again : tie.Need-loop-again Inv-loop μ-loop
 loop-again c =
-    let l = c .before .before .before .before .before .before .before .before .loop in
-    let s = c .before .before .before .before .before .before .before .before .before in
-    let start = s .before .before .before in (
+    let l = c .before .before .before .before .before .before in
+    let out = l .before in
+    let ends = out .before .before .pre in
+    let inside = c .before .before .before .before .before .loop-test .taken in (
+      omega (arith, inside),
       search needs,
-      search needs,
-      search needs,
-      fill-more _ _ (l .v) _ _ (omega arith) (weight-form _ (l .v) _ _ _ _ (start .before .pre) (s .links-of .ensures .chains) (start .tights-of .ensures) (c .weight-of .ensures)) (l .inv .3),
+      λ g r told retimed. fill-more _ _ (l .loop .v) _ _ (omega (arith, inside, ends .most))
+          (c .weight-of .ensures g r (told .all-nodes) (tells-tight _ _ _ _ ends _ _ (out .links-of .ensures .chains) g r _ (out .before .before .args .retiming .now) _ told retimed (out .before .tights-of .ensures)))
+          (l .loop .inv .2 g r told retimed),
     )
 
 returns : tie.Need-returns Inv-loop μ-loop
-returns c = weights-form _ _ _ (omega arith) (c .before .loop .inv .3)
+returns c g r told retimed = weights-all g r _ _ (omega (arith, told .all-nodes)) (c .before .loop .inv .2 g r told retimed)
 
 pub weights-spec : {M : Type 1} → statement M
 weights-spec =
@@ -54,7 +61,7 @@ weights-spec =
     (tie.spec
     Inv-loop
     μ-loop
-    (λ c κs. search needs)
+    tights-of-requires
     links-of-requires
     loop-holds
     weight-of-requires

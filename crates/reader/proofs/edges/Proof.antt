@@ -1,6 +1,6 @@
 -- `reader::edges` meets its contract: each edge is read in turn.
 -- Assumes nothing.
-use mathlib.Core.Path.{_≡_, refl, sym, _∙_}
+use mathlib.Core.Path.{_≡_, sym, _∙_}
 use Prim.Native.Nat.{_≤_, _+_, _*_, _-_}
 use native.Mathlib.Omega.{arith}
 use lib.ListN.{length}
@@ -35,14 +35,16 @@ returns c f k =
 loop-again : tie.Need-loop-again Inv-loop μ-loop
 unfolding edgeStep
 loop-again c =
-    let l = c .before .before .before .before .before .before in
-    let t = c .before .before .before .before .before .loop-test in
-    let q = c .before .before .before .before in (
+    let row = c .before .before in
+    let test = row .before in
+    let turned = test .before .before in (
       search needs,
       search needs,
       search needs,
       omega arith,
-      λ f k. turn _ _ _ _ _ _ (l .loop .inv .4 f k) (t .taken) (sym (q .is-fine .ensures) ∙ not-false _ (c .before .before .before .if1 .left)) _ (rw (c .before .before .edge-row .ensures .is, k)) refl refl refl refl (omega (arith, c .before .before .edge-row .ensures .near)),
+      λ f k.
+          turn _ _ _ _ _ _ (turned .before .loop .inv .4 f k) (turned .loop-test .taken) (sym (test .before .is-fine .ensures) ∙ not-false _ (test .if1 .left)) _ (rw (row .edge-row .ensures .is, k))
+          (omega (arith, row .edge-row .ensures .near)),
     )
 
 returns-2 : tie.Need-returns-2 Inv-loop μ-loop

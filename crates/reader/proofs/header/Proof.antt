@@ -10,7 +10,8 @@ use Rattle.reader.proofs.header.Tie as tie
 returns : tie.Need-returns
 unfolding headerOf emptyForm
 returns c =
-    let length = c .before .before .before .before .before in
+    let values = c .before .before .before in
+    let length = values .before .before in
     let edges = length .before .before in
     let nodes = edges .before .before in
     let classes = nodes .before .before in

@@ -1,6 +1,6 @@
 -- `reader::starts` meets its contract: each start and retiming is read in turn.
 -- Assumes nothing.
-use mathlib.Core.Path.{_≡_, refl, sym, _∙_}
+use mathlib.Core.Path.{_≡_, sym, _∙_}
 use Prim.Native.Nat.{_≤_, _+_, _*_, _-_}
 use native.Mathlib.Omega.{arith}
 use lib.ListN.{length}
@@ -34,13 +34,15 @@ returns c f k m n =
 loop-again : tie.Need-loop-again Inv-loop μ-loop
 unfolding startStep
 loop-again c =
-    let l = c .before .before .before .before .before .before .before .before in
-    let t = c .before .before .before .before .before .before .before .loop-test in
-    let q = c .before .before .before .before .before .before in (
+    let row = c .before .before in
+    let test = row .before .before .before in
+    let turned = test .before .before in (
       search needs,
       search needs,
       omega arith,
-      λ f k m n. turn _ _ _ _ _ _ (l .loop .inv .3 f k m n) (t .taken) (sym (q .is-fine .ensures) ∙ not-false _ (c .before .before .before .before .before .if1 .left)) _ (rw (c .before .before .start-row .ensures .is, c .before .before .before .latency-of .ensures, k, m, n)) refl refl refl refl (omega (arith, c .before .before .start-row .ensures .near)),
+      λ f k m n.
+          turn _ _ _ _ _ _ (turned .before .loop .inv .3 f k m n) (turned .loop-test .taken) (sym (test .before .is-fine .ensures) ∙ not-false _ (test .if1 .left)) _ (rw (row .start-row .ensures .is, row .before .latency-of .ensures, k, m, n))
+          (omega (arith, row .start-row .ensures .near)),
     )
 
 returns-2 : tie.Need-returns-2 Inv-loop μ-loop

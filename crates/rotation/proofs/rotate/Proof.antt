@@ -2,9 +2,10 @@
 -- Assumes nothing.
 use mathlib.Core.Path.{sym, _∙_}
 use native.Mathlib.Omega.{arith}
-use borrow.Author.Needs.{needs}
 use borrow.Author.Tests.{not-true, not-false}
+use borrow.Author.Needs.{needs}
 use Rattle.record.specs.Read.{read-good}
+use Rattle.turning.specs.Lending.{tabled-form}
 use Rattle.rotation.specs.Scheduling.{rotateAsked, rotatedBy, unturned}
 use Rattle.rotation.proofs.Entries.{entry-unread, plan-taken, entry-planned}
 use Rattle.rotation.proofs.Rotates.{rotate-writes}
@@ -14,31 +15,47 @@ use Rattle.rotation.proofs.rotate.Tie as tie
 returns : tie.Need-returns
 returns c = entry-unread _ _ _ _ _ _ (c .before .before .before .read .ensures) (sym (c .before .before .is-fine .ensures) ∙ not-true _ (c .before .if1 .taken)) _ (c .none .ensures)
 
-rotate-plan-requires : tie.Need-rotate-plan-requires
-rotate-plan-requires c κs =
-    let r = c .before .before in
+times-of-requires : tie.Need-times-of-requires
+times-of-requires c κs =
+    let i = c .before in
+    let r = i .before .before in
     let a = r .before .before .before .args in
     read-good (a .«record» .now) _ (r .read .ensures) (λ i. omega (arith, r .before .before .shared-slice-known .given i))
-    (sym (c .before .is-fine .ensures) ∙ not-false _ (c .if1 .left))
+    (sym (i .before .is-fine .ensures) ∙ not-false _ (i .if1 .left))
+
+rotate-plan-requires : tie.Need-rotate-plan-requires
+rotate-plan-requires c κs =
+    let t = c .before .before .before .before in
+    let i = t .before .before in
+    let r = i .before .before in
+    let a = r .before .before .before .args in
+    let w = read-good (a .«record» .now) _ (r .read .ensures) (λ i. omega (arith, r .before .before .shared-slice-known .given i)) (sym (i .before .is-fine .ensures) ∙ not-false _ (i .if1 .left)) in
+    (r .read .result .form, tabled-form _ _ w (t .times-of .ensures))
 
 write-plan-requires : tie.Need-write-plan-requires
 write-plan-requires c κs =
-    let p = c .before in
-    let i = p .before in
+    let p = c .before .before in
+    let t = p .before .before .before .before .before in
+    let i = t .before .before in
     let r = i .before .before in
     let a = r .before .before .before .args in
-    plan-taken _ _ unturned (a .«record» .now) (a .out .now) _ (r .read .ensures) (λ i. omega (arith, r .before .before .shared-slice-known .given i))
-    (sym (i .before .is-fine .ensures) ∙ not-false _ (i .if1 .left)) (rotate-writes _) _ (p .rotate-plan .ensures)
+    let good = sym (i .before .is-fine .ensures) ∙ not-false _ (i .if1 .left) in
+    let w = read-good (a .«record» .now) _ (r .read .ensures) (λ i. omega (arith, r .before .before .shared-slice-known .given i)) good in
+    plan-taken (rotateAsked (a .steps)) (rotatedBy (a .steps)) unturned (a .«record» .now) (a .out .now) _ (r .read .ensures) (λ i. omega (arith, r .before .before .shared-slice-known .given i)) good (rotate-writes (a .steps)) _
+    (p .rotate-plan .ensures _ (tabled-form _ _ w (t .times-of .ensures)))
 
 returns-2 : tie.Need-returns-2
 returns-2 c =
     let w = c .before .before in
-    let p = w .before .before in
-    let i = p .before in
+    let p = w .before .before .before in
+    let t = p .before .before .before .before .before in
+    let i = t .before .before in
     let r = i .before .before in
     let a = r .before .before .before .args in
-    entry-planned (rotateAsked (a .steps)) (rotatedBy (a .steps)) unturned (a .«record» .now) (a .out .now) _ (r .read .ensures) (λ i. omega (arith, r .before .before .shared-slice-known .given i))
-    (sym (i .before .is-fine .ensures) ∙ not-false _ (i .if1 .left)) (rotate-writes (a .steps)) _ (p .rotate-plan .ensures) _ _ (w .write-plan .ensures)
+    let good = sym (i .before .is-fine .ensures) ∙ not-false _ (i .if1 .left) in
+    let whole = read-good (a .«record» .now) _ (r .read .ensures) (λ i. omega (arith, r .before .before .shared-slice-known .given i)) good in
+    entry-planned (rotateAsked (a .steps)) (rotatedBy (a .steps)) unturned (a .«record» .now) (a .out .now) _ (r .read .ensures) (λ i. omega (arith, r .before .before .shared-slice-known .given i)) good (rotate-writes (a .steps)) _
+    (p .rotate-plan .ensures _ (tabled-form _ _ whole (t .times-of .ensures))) _ _ (w .write-plan .ensures)
 
 pub rotate-spec : {M : Type 1} → statement M
 rotate-spec =
@@ -48,6 +65,7 @@ rotate-spec =
     (λ c κs. search needs)
     (λ c κs. search needs)
     returns
+    times-of-requires
     rotate-plan-requires
     write-plan-requires
     (λ c. search needs)

@@ -9,7 +9,8 @@ use Rattle.rows.proofs.class_row.Tie as tie
 returns : tie.Need-returns
 unfolding classAt
 returns c =
-    let pipelined = c .before .before .before .before in
+    let values = c .before .before .before in
+    let pipelined = values .before in
     let units = pipelined .before .before in
     let latency = units .before .before in
     record { is = rw (pipelined .take3 .ensures .is, units .take2 .ensures .is, latency .take .ensures .is); near = omega arith }

@@ -9,7 +9,8 @@ use Rattle.rows.proofs.edge_row.Tie as tie
 returns : tie.Need-returns
 unfolding edgeAt
 returns c =
-    let delays = c .before .before .before .before in
+    let values = c .before .before .before in
+    let delays = values .before in
     let to = delays .before .before in
     let from = to .before .before in
     record {

@@ -7,11 +7,11 @@ use Rattle.rsk_c.proofs.rsk_list.Tie as tie
 
 returns : tie.Need-returns
 returns c =
-    let l = c .before .before .before .before .before .before in
-    let a = list-answered _ _ _ _ _ _ _ (l .list .ensures .0) (c .before .before .numbers-of .ensures) (c .before .none .ensures) (c .fill .ensures .0) (c .fill .ensures .1) in
+    let l = c .before .before .before .before .before in
+    let a = list-answered _ _ _ _ _ _ (l .list .ensures .0) (c .before .none .ensures) (c .fill .ensures .0) (c .fill .ensures .1) in
     (a .0, (l .list .ensures .1, a .1))
 
 pub rsk-list-spec : {M : Type 1} → statement M
 rsk-list-spec =
     tie.close
-    (tie.spec (λ c κs. search needs) (λ c κs. search needs) (λ c κs. search needs) (λ c κs. search needs) (λ c. search needs) returns)
+    (tie.spec (λ c κs. search needs) (λ c κs. search needs) (λ c κs. search needs) (λ c. search needs) returns)

@@ -7,8 +7,8 @@ use Rattle.rsk_c.proofs.rsk_plain.Tie as tie
 
 returns : tie.Need-returns
 returns c =
-    filled _ _ _ _ _ _ _ _ _ (c .before .before .before .before .before .before .plain .ensures) (c .before .numbers-of .ensures) (c .fill .ensures .0) (c .fill .ensures .1)
+    filled _ _ _ _ _ _ _ _ (c .before .before .before .before .before .plain .ensures) (c .fill .ensures .0) (c .fill .ensures .1)
 
 pub rsk-plain-spec : {M : Type 1} → statement M
 rsk-plain-spec =
-    tie.close (tie.spec (λ c κs. search needs) (λ c κs. search needs) (λ c κs. search needs) (λ c. search needs) returns)
+    tie.close (tie.spec (λ c κs. search needs) (λ c κs. search needs) (λ c. search needs) returns)

@@ -10,8 +10,8 @@ use Rattle.rsk_c.proofs.rsk_rewrite.Tie as tie
 
 returns : tie.Need-returns
 returns c =
-    let w = refused _ _ _ (c .before .before .before .before .before .before .read .ensures) (sym (c .before .before .before .before .before .is-fine .ensures) ∙ not-true _ (c .before .before .before .before .if1 .taken)) in
-    let a = answered _ _ _ _ _ _ _ (w .0) (c .before .before .numbers-of .ensures) (c .before .none .ensures) (c .fill .ensures .0) (c .fill .ensures .1) in
+    let w = refused _ _ _ (c .before .before .before .before .before .read .ensures) (sym (c .before .before .before .before .is-fine .ensures) ∙ not-true _ (c .before .before .before .if1 .taken)) in
+    let a = answered _ _ _ _ _ _ (w .0) (c .before .none .ensures) (c .fill .ensures .0) (c .fill .ensures .1) in
     (a .0, (w .1, a .1))
 
 write-taken-requires : tie.Need-write-taken-requires
@@ -22,9 +22,9 @@ write-taken-requires c κs =
 
 returns-2 : tie.Need-returns-2
 returns-2 c =
-    let o = c .before .before .before .before .before .before in
-    let w = passed _ _ _ (c .before .before .before .before .before .before .before .before .before .before .read .ensures) (sym (c .before .before .before .before .before .before .before .before .before .is-fine .ensures) ∙ not-false _ (c .before .before .before .before .before .before .before .before .if1 .left)) _ _ (o .write-taken .ensures .0) (o .write-taken .ensures .1) in
-    let a = answered _ _ _ _ _ _ _ (w .0) (c .before .before .numbers-of2 .ensures) (c .before .none2 .ensures) (c .fill2 .ensures .0) (c .fill2 .ensures .1) in
+    let o = c .before .before .before .before .before in
+    let w = passed _ _ _ (c .before .before .before .before .before .before .before .before .before .read .ensures) (sym (c .before .before .before .before .before .before .before .before .is-fine .ensures) ∙ not-false _ (c .before .before .before .before .before .before .before .if1 .left)) _ _ (o .write-taken .ensures .0) (o .write-taken .ensures .1) in
+    let a = answered _ _ _ _ _ _ (w .0) (c .before .none2 .ensures) (c .fill2 .ensures .0) (c .fill2 .ensures .1) in
     (a .0, (w .1, a .1))
 
 pub rsk-rewrite-spec : {M : Type 1} → statement M
@@ -35,10 +35,8 @@ rsk-rewrite-spec =
     (λ c κs. search needs)
     (λ c κs. search needs)
     (λ c κs. search needs)
-    (λ c κs. search needs)
     returns
     write-taken-requires
-    (λ c κs. search needs)
     (λ c κs. search needs)
     (λ c κs. search needs)
     (λ c. search needs)

@@ -2,6 +2,7 @@
 -- Assumes nothing.
 use mathlib.Core.Path.{ap, _∙_}
 use borrow.Author.Needs.{needs}
+use Rattle.answer.specs.Refused.{details}
 use Rattle.answer.specs.Outcome.{answerList}
 use Rattle.answer.specs.declared.Cycle.{Cycle}
 use Rattle.rsk_c.proofs.Filled.{filled}
@@ -10,14 +11,15 @@ use Rattle.rsk_c.proofs.rsk_run.Tie as tie
 
 returns : tie.Need-returns
 returns c =
-    filled _ _ _ _ _ _ _ _ _ (c .before .before .before .before .before .before .before .before .run .ensures) (c .before .before .numbers-of .ensures) (c .fill .ensures .0)
-    (c .fill .ensures .1 ∙ ap (λ (x : Cycle). answerList (c .before .before .before .before .before .before .before .before .run .result .refusal) (c .before .before .numbers-of .result) x) (c .before .none .ensures))
+    let none = c .before in
+    let run = none .before .before .before .before .before .before in
+    filled _ _ _ _ _ _ _ _ (run .run .ensures) (c .fill .ensures .0)
+    (c .fill .ensures .1 ∙ ap (λ (x : Cycle). answerList (run .run .result .refusal) (details (run .run .result .steps) 0 0) x) (none .none .ensures))
 
 pub rsk-run-spec : {M : Type 1} → statement M
 rsk-run-spec =
     tie.close
     (tie.spec
-    (λ c κs. search needs)
     (λ c κs. search needs)
     (λ c κs. search needs)
     (λ c κs. search needs)

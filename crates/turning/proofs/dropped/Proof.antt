@@ -1,29 +1,32 @@
 -- `turning::dropped` meets its contract: the starts passed are lowered.
 -- Assumes nothing.
+use mathlib.Core.Path.{_≡_}
 use Prim.Native.Nat.{_≤_, _-_}
 use native.Mathlib.Omega.{arith}
 use borrow.Author.Needs.{needs}
-use Rattle.list_rule.proofs.Laws.{tests}
-use Rattle.turning.proofs.Turns.{Lowered, lowered-none, lowered-more, lowered-all}
+use Rattle.lists.specs.Filled.{filled, fill-none, fill-more}
+use Rattle.list_rule.specs.Rule.{startNumber}
 use Rattle.turning.proofs.dropped.Statement.{statement}
 use Rattle.turning.proofs.dropped.Tie as tie
 
 abbrev Inv-loop : tie.InvT-loop
-Inv-loop steps start lower₀ v₀ lower v = (v ≤ 64) × Lowered start steps v lower
+Inv-loop nodes start steps lower₀ v₀ lower v = (v ≤ nodes) × (lower ≡ filled 64 (λ u. startNumber start u - steps) v)
 
 abbrev μ-loop : tie.MeasureT-loop
-μ-loop steps start lower₀ v₀ lower v = 64 - v
+μ-loop nodes start steps lower₀ v₀ lower v = nodes - v
 
 loop-holds : tie.Need-loop-holds Inv-loop μ-loop
-loop-holds c = (omega arith, lowered-none _ _ _ (search tests))
+loop-holds c = (omega arith, fill-none _ _)
 
 loop-again : tie.Need-loop-again Inv-loop μ-loop
 loop-again c =
-    let l = c .before .before in
-    (omega arith, lowered-more _ _ _ _ _ (omega arith) (c .less .ensures) (l .loop .inv .1))
+    let l = c .before .before .before in
+    (omega arith, fill-more _ _ (l .loop .v) _ _ (omega arith) (c .less .ensures) (l .loop .inv .1))
 
 returns : tie.Need-returns Inv-loop μ-loop
-returns c = lowered-all _ _ _ _ (omega arith) (search tests) (c .before .loop .inv .1)
+returns c =
+    let e : c .before .loop .v ≡ c .before .before .args .nodes = omega arith in
+    rw (← e) (c .before .loop .inv .1)
 
 pub dropped-spec : {M : Type 1} → statement M
 dropped-spec =

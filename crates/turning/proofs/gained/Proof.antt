@@ -1,35 +1,41 @@
 -- `turning::gained` meets its contract: the retimings passed are raised where they should be.
 -- Assumes nothing.
-use Prim.Native.Nat.{_≤_, _-_}
+use mathlib.Core.Path.{_≡_}
+use Prim.Native.Nat.{_≤_, _+_, _-_}
 use native.Mathlib.Omega.{arith}
 use borrow.Author.Needs.{needs}
-use Rattle.list_rule.proofs.Laws.{tests}
-use Rattle.turning.proofs.Turns.{Gained, gained-none, gained-more, small-retiming}
+use lib.Dec.{leb}
+use lib.ListN.{getD}
+use Rattle.lists.specs.Pick.{pick}
+use Rattle.lists.specs.Filled.{filled, fill-none, fill-more}
 use Rattle.turning.proofs.gained.Statement.{statement}
 use Rattle.turning.proofs.gained.Tie as tie
 
 abbrev Inv-loop : tie.InvT-loop
-Inv-loop steps form retiming₀ v₀ v-end retiming v = (v ≤ form .header .nodes) × Gained form steps v retiming
+Inv-loop nodes retiming start steps raised₀ v₀ raised v =
+    (v ≤ nodes) × (raised ≡ filled 64 (λ u. getD retiming u 0 + pick (leb (getD start u 0) steps) 1 0) v)
 
 abbrev μ-loop : tie.MeasureT-loop
-μ-loop steps form retiming₀ v₀ v-end retiming v = form .header .nodes - v
+μ-loop nodes retiming start steps raised₀ v₀ raised v = nodes - v
 
 loop-holds : tie.Need-loop-holds Inv-loop μ-loop
-loop-holds c = (omega arith, gained-none _ _ _ (search tests))
+loop-holds c = (search needs, fill-none _ _)
 
 gain-requires : tie.Need-gain-requires Inv-loop μ-loop
 gain-requires c κs =
-    let l = c .before .before in
-    let w = l .before .before .pre in
-    small-retiming _ (w .0) (w .1) _ (c .before .loop-test .taken)
+    let t = c .before .before in
+    t .before .before .pre .1 (t .before .loop .v) (omega arith)
 
 loop-again : tie.Need-loop-again Inv-loop μ-loop
 loop-again c =
-    let l = c .before .before .before in
-    (omega arith, gained-more _ _ _ _ _ (omega arith) (c .gain .ensures) (l .loop .inv .1))
+    let t = c .before .before .before in
+    let l = t .before in
+    (search needs, fill-more _ _ (l .loop .v) _ _ (omega arith) (c .gain .ensures) (l .loop .inv .1))
 
 returns : tie.Need-returns Inv-loop μ-loop
-returns c = λ v l. c .before .loop .inv .1 .at v (omega arith)
+returns c =
+    let e : c .before .loop .v ≡ c .before .before .args .nodes = omega arith in
+    rw (← e) (c .before .loop .inv .1)
 
 pub gained-spec : {M : Type 1} → statement M
 gained-spec =

@@ -1,54 +1,59 @@
 -- `turning::length_of` meets its contract: the last step of the nodes passed is kept.
 -- Assumes nothing.
-use mathlib.Core.Path.{_≡_, _∙_}
+use mathlib.Core.Path.{_≡_, sym, _∙_}
 use mathlib.Core.Logic.{⊎-elim}
-use Prim.Native.Nat.{_≤_, _-_}
+use Prim.Native.Nat.{ℕ, _≤_, _<_, _-_}
 use native.Mathlib.Omega.{arith}
 use borrow.Author.Needs.{needs}
-use Rattle.turning.proofs.Laws.{Working, working-of, lastOf, last-none, last-more, last-all}
+use lib.ListN.{getD}
+use Rattle.legal.specs.Loop.{Loop, latency}
+use Rattle.turning.proofs.Laws.{lastOf, last-none, last-more, last-all}
 use Rattle.turning.proofs.length_of.Statement.{statement}
 use Rattle.turning.proofs.length_of.Tie as tie
 
 abbrev Inv-loop : tie.InvT-loop
-Inv-loop form start last₀ v₀ v-end last v = (v ≤ form .header .nodes) × (last ≡ lastOf form start v)
+Inv-loop nodes latencies start last₀ v₀ last v =
+    (v ≤ nodes) × ((g : Loop) → ((u : ℕ) → u < nodes → latency g u ≡ getD latencies u 0) → last ≡ lastOf g start v)
 
 abbrev μ-loop : tie.MeasureT-loop
-μ-loop form start last₀ v₀ v-end last v = form .header .nodes - v
+μ-loop nodes latencies start last₀ v₀ last v = nodes - v
 
 loop-holds : tie.Need-loop-holds Inv-loop μ-loop
-loop-holds c = (search needs, last-none _ _)
-
-working : (c : tie.In-loop Inv-loop μ-loop) → Working (c .before .before .args .t1) (c .before .before .args .t2) (c .before .loop .v)
-working c = working-of _ _ (c .before .before .pre .0) (c .before .before .pre .1) _ (c .loop-test .taken)
-
-cast-class : tie.Need-cast-class Inv-loop μ-loop
-cast-class c = omega (arith, working c .class-in)
-
-mul-class-2 : tie.Need-mul-class-2 Inv-loop μ-loop
-mul-class-2 c = omega (arith, working c .class-in)
-
-element-copy-out-class-2 : tie.Need-element-copy-out-class-2 Inv-loop μ-loop
-element-copy-out-class-2 c = working c .class-in
+loop-holds c = (search needs, λ g takes. sym (last-none g _))
 
 cast-end : tie.Need-cast-end Inv-loop μ-loop
-cast-end c = omega (arith, working (c .before .before) .short)
+cast-end c =
+    let l = c .before .before .before in
+    omega (arith, l .before .pre .short (l .loop .v) (omega arith))
 
 add-end : tie.Need-add-end Inv-loop μ-loop
-add-end c = omega (arith, working (c .before .before) .short, working (c .before .before) .soon)
+add-end c =
+    let l = c .before .before .before in
+    let soon = l .before .pre in
+    omega (arith, soon .short (l .loop .v) (omega arith), soon .soon (l .loop .v) (omega arith))
 
 sub-end : tie.Need-sub-end Inv-loop μ-loop
-sub-end c = omega (arith, working (c .before .before) .some)
+sub-end c =
+    let l = c .before .before .before in
+    omega (arith, l .before .pre .some (l .loop .v) (omega arith))
 
 loop-again : tie.Need-loop-again Inv-loop μ-loop
 loop-again c =
-    let l = c .before .before .before .before in
-    let a = l .before .args in
-    let more = last-more (a .t1) (a .t2) (l .loop .v) in
-    ⊎-elim (λ w. omega (arith, more)) (λ w. omega (arith, more)) (c .if1 .came)
+    let t = c .before .before .before in
+    let l = t .before in
+    let v = l .loop .v in (
+      search needs,
+      λ g takes.
+          ⊎-elim
+          (λ w. omega (arith, last-more g (l .before .args .start .now) v, l .loop .inv .1 g takes, takes v (omega (arith, t .loop-test .taken))))
+          (λ w. omega (arith, last-more g (l .before .args .start .now) v, l .loop .inv .1 g takes, takes v (omega (arith, t .loop-test .taken))))
+          (c .if1 .came),
+    )
 
 returns : tie.Need-returns Inv-loop μ-loop
 returns c =
-    c .before .loop .inv .1 ∙ last-all (c .before .before .args .t1) (c .before .before .args .t2) (c .before .loop .v) (omega arith)
+    let l = c .before in
+    λ g all takes. l .loop .inv .1 g takes ∙ last-all g (l .before .args .start .now) (l .loop .v) (omega (arith, all))
 
 pub length-of-spec : {M : Type 1} → statement M
 length-of-spec =
@@ -59,10 +64,6 @@ length-of-spec =
     loop-holds
     (λ c. search needs)
     (λ c. search needs)
-    (λ c. search needs)
-    cast-class
-    mul-class-2
-    element-copy-out-class-2
     (λ c. search needs)
     (λ c. search needs)
     cast-end

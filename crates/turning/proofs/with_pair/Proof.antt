@@ -1,11 +1,13 @@
 -- `turning::with_pair` meets its contract.
 -- Assumes nothing.
-use Rattle.turning.proofs.Laws.{paired}
+use mathlib.Core.Path.{refl}
+use Rattle.turning.specs.Pairs.{timesWith}
 use Rattle.turning.proofs.with_pair.Statement.{statement}
 use Rattle.turning.proofs.with_pair.Tie as tie
 
 returns : tie.Need-returns
-returns c = paired _ _ _ _
+unfolding timesWith
+returns c = refl
 
 pub with-pair-spec : {M : Type 1} → statement M
 with-pair-spec = tie.close (tie.spec returns)

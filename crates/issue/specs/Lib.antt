@@ -1,0 +1,4 @@
+pub mod Tables
+pub mod Units
+pub mod Late
+pub mod Issue
