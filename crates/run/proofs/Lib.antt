@@ -2,4 +2,5 @@ pub mod Laws
 pub mod Placing
 pub mod Midway
 pub mod Rounds
+pub mod Turning
 pub mod Entry
