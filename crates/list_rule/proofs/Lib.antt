@@ -1,5 +1,5 @@
 pub mod Laws
 pub mod Units
 pub mod Waits
-pub mod Ordering
+pub mod Weighed
 pub mod Steps

@@ -29,7 +29,7 @@ use Rattle.list_rule.specs.Tables.{weightOf, holdsIn, Raised, Used, Wait
 use Rattle.list_rule.proofs.Laws.{both-false, adds-one, adds-none}
 use Rattle.list_rule.proofs.Units.{rowOf, used-put, in-use-is}
 use Rattle.list_rule.proofs.Waits.{ready-is}
-use Rattle.list_rule.proofs.Ordering.{order-same, table-below}
+use Rattle.list_rule.proofs.Weighed.{weights-same, weighed-below}
 
 -- ---- occupied steps
 
@@ -112,13 +112,13 @@ module _ (edges : ℕ) (from to delays : List ℕ) (t : Timetable) where
     pub below : (i : ℕ) → i < t .nodes → getD order i 0 < t .nodes
     pub is : Each (λ g r. take (t .nodes) order ≡ orderIn g r)
 
-  pub ordered-of : (weights order : List ℕ) → 1 ≤ t .nodes → Each (λ g r. weights ≡ weightsOf g r) → length order ≡ 64
+  pub ordered-of : (weights order : List ℕ) → Each (λ g r. weights ≡ weightsOf g r) → length order ≡ 64
       → take (t .nodes) order ≡ orderOf (weightOf weights) (t .nodes) → Ordered order
-  ordered-of weights order some each l is = record {
+  ordered-of weights order each l is = record {
     size = l;
-    below = table-below (weightOf weights) (t .nodes) (t .nodes) order (omega arith) some is;
+    below = weighed-below (weightOf weights) (t .nodes) order is;
     is = λ g pair told timed. is
-        ∙ order-same (weightOf weights) (weight g (pair .retiming)) (t .nodes) (t .nodes) (omega arith) some
+        ∙ weights-same (weightOf weights) (weight g (pair .retiming)) (t .nodes)
         (λ u m. ap (λ (xs : List ℕ). getD xs u 0) (each g pair told timed) ∙ weights-at g (pair .retiming) u (omega (arith, told .all-nodes)))
         ∙ ap (orderOf (weight g (pair .retiming))) (sym (told .all-nodes));
   }

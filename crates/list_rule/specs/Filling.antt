@@ -17,8 +17,8 @@ use Rattle.form.specs.Ranges.{WellFormed}
 use Rattle.legal.specs.Loop.{Loop, latency, runsOn, loopOf, graphOf}
 use Rattle.legal.specs.Shape.{Sound}
 use Rattle.reach.specs.Weight.{tight}
-use Rattle.list_rule.specs.Order.{orderOf}
-use Rattle.list_rule.specs.Ordered.{order-has, order-below}
+use Rattle.sorted.specs.Ordered.{order-has, order-below}
+use Rattle.list_rule.specs.Order.{heavier, orderOf}
 use Rattle.list_rule.specs.Rule.{startNumber, allPlaced, lengthOf}
 use Rattle.list_rule.specs.Ends.{EndsBy, length-ends, length-least}
 
@@ -45,7 +45,8 @@ pub record Whole (g : Loop) (order : List ℕ) : Type 0 where
   pub has : (v : ℕ) → v < g .graph .nodes → (i : ℕ) × (i < length order) × (getD order i 0 ≡ v)
 
 pub order-whole : (g : Loop) (weights : ℕ → ℕ) → Whole g (orderOf weights (g .graph .nodes))
-order-whole g weights = record { nodes = order-below weights (g .graph .nodes); has = order-has weights (g .graph .nodes) }
+unfolding orderOf
+order-whole g weights = record { nodes = order-below (heavier weights) (g .graph .nodes); has = order-has (heavier weights) (g .graph .nodes) }
 
 -- a table with a place for every node, whose starts end by step m
 pub record TableEndsBy (g : Loop) (s : List ℕ) (m : ℕ) : Type 0 where

@@ -1,18 +1,19 @@
 -- The nodes in the order in which the list rule tries them: heaviest first, then lowest number.
 -- Assumes nothing.
-use mathlib.Core.List.{List, [], _∷_}
+use mathlib.Core.Bool.{Bool}
+use mathlib.Core.List.{List}
 use Prim.Native.Nat.{ℕ}
 use lib.Dec.{ltb}
-use Rattle.lists.specs.Pick.{pick}
-use Rattle.lists.specs.Span.{span}
-use Rattle.lists.specs.Fold.{fold}
+use Rattle.sorted.specs.Order.{orderBy}
+-- for those who compute the order
+unfoldable pub use Rattle.sorted.specs.Order.{insert}
 
 module _ (weight : ℕ → ℕ) where
-  -- v goes before the first node that weighs less
-  unfoldable pub insert : List ℕ → ℕ → List ℕ
-  insert [] v = v ∷ []
-  insert (u ∷ us) v = pick (ltb (weight u) (weight v)) (v ∷ u ∷ us) (u ∷ insert us v)
+  -- v goes before u where u weighs less
+  abbrev pub heavier : ℕ → ℕ → Bool
+  heavier v u = ltb (weight u) (weight v)
 
-  -- nodes 0 to n - 1, one after the other
+  -- nodes 0 to n - 1, heaviest first, then lowest number
   unfoldable pub orderOf : ℕ → List ℕ
-  orderOf n = fold insert [] (span 0 n)
+  unfolding orderBy
+  orderOf n = orderBy heavier n

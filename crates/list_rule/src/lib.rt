@@ -1,16 +1,15 @@
 // The list rule: nodes placed step by step, the heaviest that is ready first.
-ghost use mathlib.Core.Bool.{_||_};
 ghost use mathlib.Core.Path.{_≡_};
 ghost use Prim.Native.Nat.{ℕ, _+_, _*_, _≤_, _<_};
 ghost use lib.ListN.{length, getD, take};
-ghost use lib.Dec.{eqb, ltb};
+ghost use lib.Dec.{eqb};
 ghost use Rattle.lists.specs.Pick.{pick};
 ghost use Rattle.lists.specs.Span.{span};
 ghost use Rattle.lists.specs.Fold.{count};
 ghost use Rattle.legal.specs.Loop.{Loop, Pair};
 ghost use Rattle.tables.specs.Edges.{Ends, Told};
 ghost use Rattle.tables.specs.Times.{SoundTimes, Timed};
-ghost use Rattle.list_rule.specs.Order.{insert as insertIn, orderOf};
+ghost use Rattle.list_rule.specs.Order.{orderOf};
 ghost use Rattle.list_rule.specs.Rule.{startNumber, listRule};
 ghost use Rattle.list_rule.specs.Tables.{weightOf, OnBoard, EndsInBody, Raised, Used, WaitsTabled, blocksAt};
 use form::Class;
@@ -25,35 +24,24 @@ fn spot(step: u16, class: u8) -> usize
     step as usize * 4 + class as usize
 }
 
-// A node that weighs less is passed, now or before.
-fn passed(before: bool, weight: u8, own: u8) -> bool
-    ensures { λ r. ⌜ r ≡ before || ltb weight own ⌝ }
+// The heavier, the lower.
+fn key_of(weight: u8) -> u32
+    ensures { λ r. ⌜ r + weight ≡ 255 ⌝ }
 {
-    if before {
-        return true;
-    }
-    weight < own
+    255 - weight as u32
 }
 
-// `node` goes before the first of the nodes so far that weighs less; from there on each moves one place.
-fn insert(order: &mut [u8; 64], node: u8, weight: &[u8; 64])
-    requires { ⌜ (length (now order) ≡ 64) × (node < 64) ⌝ }
-    requires { ⌜ ((i : ℕ) → i < node → getD (now order) i 0 < 64) ⌝ }
-    ensures { λ _. ⌜ (length (now (order .exit)) ≡ 64) × (take (node + 1) (now (order .exit)) ≡ insertIn (weightOf (now (weight .entry))) (take node (now (order .entry))) node) ⌝ }
+// A key for each node.
+fn keys_of(nodes: u8, weight: &[u8; 64]) -> [u32; 64]
+    requires { ⌜ nodes ≤ 64 ⌝ }
+    ensures { λ r. ⌜ ((v : ℕ) → v < nodes → getD r v 0 + weightOf (now (weight .entry)) v ≡ 255) ⌝ }
 {
-    let own = weight[node as usize];
-    let mut carried = node;
-    let mut lighter = false;
-    for k in 0..node {
-        let i = k as usize;
-        let u = order[i];
-        lighter = passed(lighter, weight[u as usize], own);
-        if lighter {
-            order[i] = carried;
-            carried = u;
-        }
+    let mut keys = [0u32; 64];
+    for v in 0..nodes {
+        let i = v as usize;
+        keys[i] = key_of(weight[i]);
     }
-    order[node as usize] = carried;
+    keys
 }
 
 // The nodes heaviest first, then lowest number.
@@ -61,11 +49,8 @@ fn order_of(nodes: u8, weight: &[u8; 64]) -> [u8; 64]
     requires { ⌜ nodes ≤ 64 ⌝ }
     ensures { λ r. ⌜ (length r ≡ 64) × (take nodes r ≡ orderOf (weightOf (now (weight .entry))) nodes) ⌝ }
 {
-    let mut order = [0u8; 64];
-    for v in 0..nodes {
-        insert(&mut order, v, weight);
-    }
-    order
+    let keys = keys_of(nodes, weight);
+    sorted::sorted(nodes, &keys)
 }
 
 // No unit is in use.

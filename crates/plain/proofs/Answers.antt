@@ -17,6 +17,7 @@ use Rattle.answer.specs.declared.Refusal.{Refusal}
 use Rattle.answer.specs.declared.Refusal.the-variants.{None, Knot}
 use Rattle.form.specs.declared.Form.{Form}
 use Rattle.form.specs.Ranges.{WellFormed}
+use Rattle.sorted.specs.Order.{ascending}
 use Rattle.reader.specs.declared.Record.{Record}
 use Rattle.reader.specs.Reading.{readForm}
 use Rattle.legal.specs.Loop.{graphOf, loopOf, pairOf}
@@ -28,7 +29,7 @@ use Rattle.knots.specs.Found.{KnotFound}
 use Rattle.record.specs.Early.{read-early}
 use Rattle.plain.specs.declared.Looped.{Looped}
 use Rattle.plain.specs.Answer.{roomOf, plainOf, plainRecord, FormLooped, RecordLooped}
-use Rattle.plain.specs.Ascending.{ascending, ascending-sorts}
+use Rattle.plain.specs.Ascending.{ascending-sorts}
 use Rattle.plain.specs.Looping.{looped}
 use Rattle.plain.specs.Settled.{looped-plain, looped-kept}
 

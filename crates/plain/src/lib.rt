@@ -1,14 +1,10 @@
 // The plain loop: iteration after iteration, each node after those whose values it needs.
-ghost use mathlib.Core.Bool.{_||_};
 ghost use mathlib.Core.Path.{_≡_};
-ghost use Prim.Native.Nat.{ℕ, _+_, _*_, _≤_, _<_};
-ghost use lib.Dec.{ltb};
+ghost use Prim.Native.Nat.{ℕ, _*_, _≤_, _<_};
 ghost use lib.ListN.{length, getD, take};
 ghost use Rattle.answer.specs.Outcome.{noCycle};
 ghost use Rattle.form.specs.Ranges.{WellFormed};
 ghost use Rattle.legal.specs.Loop.{loopOf};
-ghost use Rattle.list_rule.specs.Order.{insert as insertIn};
-ghost use Rattle.plain.specs.Ascending.{lead, ascending};
 ghost use Rattle.plain.specs.Looping.{looped};
 ghost use Rattle.plain.specs.Turns.{next};
 ghost use Rattle.plain.specs.Answer.{roomOf, FormLooped, RecordLooped};
@@ -21,49 +17,6 @@ use machine::Iteration;
 pub struct Looped {
     pub refusal: Refusal,
     pub cycle: Cycle,
-}
-
-// A node of higher rank is passed, now or before.
-fn passed(before: bool, own: u32, rank: u32) -> bool
-    ensures { λ r. ⌜ r ≡ before || ltb own rank ⌝ }
-{
-    if before {
-        return true;
-    }
-    own < rank
-}
-
-// `node` goes before the first of the nodes so far whose rank is higher; from there on each moves one place.
-fn insert(order: &mut [u8; 64], node: u8, rank: &[u32; 64])
-    requires { ⌜ (length (now order) ≡ 64) × (node < 64) ⌝ }
-    requires { ⌜ ((i : ℕ) → i < node → getD (now order) i 0 < 64) ⌝ }
-    ensures { λ _. ⌜ (length (now (order .exit)) ≡ 64) × (take (node + 1) (now (order .exit)) ≡ insertIn (lead (now (rank .entry))) (take node (now (order .entry))) node) ⌝ }
-{
-    let own = rank[node as usize];
-    let mut carried = node;
-    let mut higher = false;
-    for k in 0..node {
-        let i = k as usize;
-        let u = order[i];
-        higher = passed(higher, own, rank[u as usize]);
-        if higher {
-            order[i] = carried;
-            carried = u;
-        }
-    }
-    order[node as usize] = carried;
-}
-
-// The nodes by ascending rank, then number.
-fn order_of(nodes: u8, rank: &[u32; 64]) -> [u8; 64]
-    requires { ⌜ nodes ≤ 64 ⌝ }
-    ensures { λ r. ⌜ (length r ≡ 64) × (take nodes r ≡ ascending (now (rank .entry)) nodes) ⌝ }
-{
-    let mut order = [0u8; 64];
-    for v in 0..nodes {
-        insert(&mut order, v, rank);
-    }
-    order
 }
 
 // The value that comes next: of the node at a place of the order, in an iteration.
@@ -166,7 +119,7 @@ pub fn plain_form(form: Form, iterations: u16, starts: &[u32], values: &mut [u32
     if !room.is_fine() {
         return alone(room);
     }
-    let order = order_of(form.nodes, &ranking.rank);
+    let order = sorted::sorted(form.nodes, &ranking.rank);
     iterate_all(form, order, iterations, starts, values);
     alone(Refusal::None)
 }

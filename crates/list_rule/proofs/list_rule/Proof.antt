@@ -55,7 +55,7 @@ asked c = c .before .before .before .before .before .before .before .before .bef
 ordered : (c : tie.After-busy-of Inv-loop μ-loop Inv-nodes μ-nodes Inv-steps μ-steps) → Ordered (asked c .args .edges) (asked c .args .from .now) (asked c .args .to .now) (asked c .args .delays .now) (asked c .args .t5) (c .before .before .before .before .before .order-of .result)
 ordered c =
     let o = c .before .before .before .before .before in
-    ordered-of _ _ _ _ _ _ _ (asked c .pre .0 .some) (λ g pair told timed. o .before .before .weights .ensures g (pair .retiming) told (λ v l. timed .retimed v)) (o .order-of .ensures .0) (o .order-of .ensures .1)
+    ordered-of _ _ _ _ _ _ _ (λ g pair told timed. o .before .before .weights .ensures g (pair .retiming) told (λ v l. timed .retimed v)) (o .order-of .ensures .0) (o .order-of .ensures .1)
 
 steps-holds : tie.Need-steps-holds Inv-loop μ-loop Inv-nodes μ-nodes Inv-steps μ-steps
 steps-holds c = (omega arith, omega arith, filling-none _ _ _ _ _ _ (search needs) (c .busy-of .ensures))
