@@ -1,6 +1,5 @@
 pub mod Order
 pub mod Repeats
 pub mod Repeat
-pub mod Turns
 pub mod Going
 pub mod Running
