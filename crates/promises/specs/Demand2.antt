@@ -260,20 +260,20 @@ list-rule-places g r sound staffed ranked s m within l v h = rule-places g r sou
 
 -- ---- rotations, of a well-formed form with a legal pair
 
-module _ (f : Form) (w : WellFormed f) (legal : Legal (loopOf f) (pairOf f)) (z : ℕ) (one : 1 ≤ z) (below : z < f .length) (whole : length (f .start) ≡ 64) where
+module _ (f : Form) (w : WellFormed f) (legal : Legal (loopOf f) (pairOf f)) (z : ℕ) (one : 1 ≤ z) (below : z < f .length) where
   -- a legal pair again, or more than 512 steps
   pub rotation-legal : rotatedLength f z ≤ 512 → Legal (loopOf (rotated f z)) (pairOf (rotated f z))
-  rotation-legal = rotations.rotated-form-legal f w legal z one below whole
+  rotation-legal = rotations.rotated-form-legal f w legal z one below
 
   pub rotation-accepted : tooLong f z ≡ false → judgeOf (rotated f z) ≡ None
-  rotation-accepted = rotations.rotated-judged f w legal z one below whole
+  rotation-accepted = rotations.rotated-judged f w legal z one below
 
   pub rotation-long : tooLong f z ≡ true → 512 < rotatedLength f z
   unfolding tooLong
   rotation-long = ltb-true _ _
 
   pub rotation-short : tooLong f z ≡ false → rotatedLength f z ≤ 512
-  rotation-short = rotations.rotated-form-short f w legal z one below whole
+  rotation-short = rotations.rotated-form-short f w legal z one below
 
 -- ---- searches, of a well-formed form without a knot, by up to c rotations of size z
 

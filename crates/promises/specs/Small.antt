@@ -21,6 +21,7 @@ use Rattle.legal.specs.Legal.{busy}
 use Rattle.legal.specs.Held as body
 use Rattle.legal.specs.Systems.{knots, knotted, lateness, limits, paces}
 use Rattle.legal.specs.Judging.{breaks, brokenEdge, over, overClass, overStep, unitsOf, rulesOf, judgeOf}
+use Rattle.tables.specs.Times.{timesOf}
 use Rattle.fit.specs.Retimed.{retimings, withRetiming, fittedForm}
 use Rattle.fit.specs.Fitting.{fitOf}
 use Rattle.floor.specs.Parts.{latencyPart, nodesOn, unitsPart, unitsParts, cyclePart, floorLength}
@@ -117,5 +118,5 @@ worked =
     ∷ []
 
 pub small-loop : map (λ (c : Case). answerTo (c .asked)) worked ≡ map (λ (c : Case). c .given) worked
-unfolding smallWith startTable told answer limitsIn answerTo worked smallForm pairIn emptyForm pick span count fold top firstFrom fine hold graphOf loopOf pairOf busy body.held sumOf knots knotted lateness limits paces breaks brokenEdge over overClass overStep unitsOf rulesOf judgeOf asks raise raiseAll raises everyEdge round settleFrom settledOf topOf turnedAt filled retimings withRetiming fittedForm fitOf latencyPart nodesOn unitsPart unitsParts cyclePart floorLength partOf floorRefusal tight spread sweep reach reachedFrom weight insert orderOf uses inUse free blocks ready place fillStep allPlaced fillFrom listRule lengthOf firstStarts numbersOf startsOf withPair firstForm gainedBy droppedBy turnedStarts rotatedStarts rotatedLength rotated tooLong firstAsked turns rotateAsked halved stops shorter turn begun searchFrom searched searchAsked plus minus times difference applied edgesInto operandBy computedBy depth issues late lateEdge holds heldNow issue visit stepOf runSteps ran cleared runOf
+unfolding smallWith startTable told answer limitsIn answerTo worked smallForm pairIn emptyForm pick span count fold top firstFrom fine hold graphOf loopOf pairOf busy body.held sumOf knots knotted lateness limits paces breaks brokenEdge over overClass overStep unitsOf rulesOf judgeOf asks raise raiseAll raises everyEdge round settleFrom settledOf topOf turnedAt filled retimings withRetiming fittedForm fitOf latencyPart nodesOn unitsPart unitsParts cyclePart floorLength partOf floorRefusal tight spread sweep reach reachedFrom weight insert orderOf uses inUse free blocks ready place fillStep allPlaced fillFrom listRule lengthOf firstStarts numbersOf startsOf timesOf withPair firstForm gainedBy droppedBy turnedStarts rotatedStarts rotatedLength rotated tooLong firstAsked turns rotateAsked halved stops shorter turn begun searchFrom searched searchAsked plus minus times difference applied edgesInto operandBy computedBy depth issues late lateEdge holds heldNow issue visit stepOf runSteps ran cleared runOf
 small-loop = refl

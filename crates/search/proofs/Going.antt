@@ -13,7 +13,7 @@ use Rattle.lists.specs.Pick.{pick, pick-ind, pick-true, pick-false}
 use Rattle.lists.specs.Both.{fails-or}
 use Rattle.form.specs.declared.Form.{Form}
 use Rattle.form.specs.Ranges.{WellFormed}
-use Rattle.legal.specs.Loop.{loopOf, pairOf}
+use Rattle.legal.specs.Loop.{loopOf}
 use Rattle.legal.specs.Systems.{knotted}
 use Rattle.tables.specs.declared.Timetable.{Timetable}
 use Rattle.tables.specs.Times.{timesOf}

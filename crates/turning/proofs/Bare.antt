@@ -10,7 +10,7 @@ use Rattle.legal.specs.Loop.{plain, Loop, Pair, graphOf, loopOf}
 use Rattle.legal.specs.Shape.{sound-form}
 use Rattle.tables.specs.declared.Timetable.{Timetable}
 use Rattle.tables.specs.Edges.{Ends}
-use Rattle.tables.specs.Times.{SoundTimes, Timed}
+use Rattle.tables.specs.Times.{SoundTimes}
 use Rattle.tables.specs.Lent.{Lent, lent-ends, lent-sound}
 use Rattle.list_rule.specs.Rule.{startNumber, listRule, lengthOf}
 use Rattle.list_rule.specs.Tables.{EndsInBody}
