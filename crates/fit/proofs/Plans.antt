@@ -32,10 +32,11 @@ use Rattle.legal.specs.Judging.{overStep, unitsOf}
 use Rattle.legal.specs.Handed.{Handed, handed-none, handed-knot}
 use Rattle.knots.specs.Found.{KnotFound}
 use Rattle.record.specs.Early.{read-early}
+use Rattle.record.specs.ReadFirst.{first-refused, first-asked}
 use Rattle.fit.specs.declared.Fitting.{Fitting}
 use Rattle.fit.specs.declared.Fitted.{Fitted}
 use Rattle.fit.specs.Retimed.{withRetiming, fittedForm, StartsFitted}
-use Rattle.fit.specs.Fitting.{fitOf, fitRecord, fitBuffer, RecordFitted}
+use Rattle.fit.specs.Fitting.{fitOf, fitRefusal, fitRecord, fitBuffer, RecordFitted}
 use Rattle.fit.specs.declared.Plan.{Plan}
 use Rattle.fit.specs.Planned.{FitPlanned}
 use Rattle.fit.specs.Laws.{FitTold, bare, knot, unfit, units, fits, past-knots, fit-told, fit-none, fitted-taken, fitted-written}
@@ -128,7 +129,7 @@ module _ (s out : List ℕ) where
     unfolding fitRecord
     fit-unread b c e =
         let early : numberOf (x .refusal) ≤ 10 = rw back (read-early s) in
-        refused (x .refusal) c (sym (rw (← back) (pick-false (fine (x .refusal)) _ (x .refusal) b))) b (handed-none _ _ (x .refusal) c (λ q. omega arith) (λ q. omega arith) e)
+        refused (x .refusal) c (sym (first-refused s x back (fitRefusal (length out)) b)) b (handed-none _ _ (x .refusal) c (λ q. omega arith) (λ q. omega arith) e)
 
     module _ (bytes : Bytes s) (e : fine (x .refusal) ≡ true) where
       read-fine : fine (readForm s .refusal) ≡ true
@@ -143,7 +144,7 @@ module _ (s out : List ℕ) where
         unfolding fitRecord
         fit-refused b =
             let is : fitRecord s (length out) ≡ fitOf (readForm s .form) =
-            pick-true (fine (readForm s .refusal)) _ _ read-fine ∙ pick-false (fine (fitOf (readForm s .form))) _ _ (ap fine (sym (plan .refusal)) ∙ b) in
+            first-asked s (readForm s) refl (fitRefusal (length out)) read-fine ∙ pick-false (fine (fitOf (readForm s .form))) _ _ (ap fine (sym (plan .refusal)) ∙ b) in
             refused (y .refusal) (y .cycle) (plan .refusal ∙ sym is) b (plan .handed)
 
         -- the form to be written
@@ -170,7 +171,7 @@ module _ (s out : List ℕ) where
 
           writes : fitRecord s (length out) ≡ refusalOf (fittedForm (readForm s .form)) (length out)
           unfolding fitRecord
-          writes = pick-true (fine (readForm s .refusal)) _ _ read-fine ∙ pick-true (fine (fitOf (readForm s .form))) _ _ fit-fine
+          writes = first-asked s (readForm s) refl (fitRefusal (length out)) read-fine ∙ pick-true (fine (fitOf (readForm s .form))) _ _ fit-fine
 
           unproved : (numberOf (refusalOf (fittedForm (readForm s .form)) (length out)) ≢ 12) × (numberOf (refusalOf (fittedForm (readForm s .form)) (length out)) ≢ 14)
           unproved =

@@ -11,6 +11,7 @@ use Rattle.answer.specs.declared.Refusal.{Refusal}
 use Rattle.answer.specs.declared.Refusal.the-variants.{Bare, Knot, NoRetiming}
 use Rattle.form.specs.declared.Form.{Form}
 use Rattle.reader.specs.Reading.{readForm}
+use Rattle.record.specs.ReadFirst.{readFirst}
 use Rattle.writer.specs.Writing.{refusalOf, written, bufferAfter}
 use Rattle.system.specs.Rounds.{settledOf}
 use Rattle.legal.specs.Loop.{loopOf, pairOf}
@@ -27,12 +28,13 @@ fitOf f =
     (pick (knotted (loopOf f)) Knot
     (pick (settledOf (limits (loopOf f) (pairOf f)) .settled) (unitsOf (loopOf f) (pairOf f)) NoRetiming))
 
+-- what is refused of a form, with so much room
+abbrev pub fitRefusal : ℕ → Form → Refusal
+fitRefusal room f = pick (fine (fitOf f)) (refusalOf (fittedForm f) room) (fitOf f)
+
 -- what is refused of a record, with so much room
 unfoldable pub fitRecord : List ℕ → ℕ → Refusal
-fitRecord s room =
-    pick (fine (readForm s .refusal))
-    (pick (fine (fitOf (readForm s .form))) (refusalOf (fittedForm (readForm s .form)) room) (fitOf (readForm s .form)))
-    (readForm s .refusal)
+fitRecord s room = readFirst s (fitRefusal room)
 
 -- the buffer afterwards
 unfoldable pub fitBuffer : List ℕ → List ℕ → List ℕ

@@ -16,15 +16,12 @@ use Rattle.answer.specs.declared.Refusal.{Refusal}
 use Rattle.answer.specs.declared.Refusal.the-variants.{None, Knot, Room}
 use Rattle.form.specs.declared.Form.{Form}
 use Rattle.form.specs.Ranges.{WellFormed}
-use Rattle.field.specs.Number.{Bytes}
 use Rattle.reader.specs.declared.Record.{Record}
 use Rattle.reader.specs.Reading.{readForm}
 use Rattle.writer.specs.declared.Written.{Written}
 use Rattle.writer.specs.Layout.{layout}
 use Rattle.writer.specs.Writing.{refusalOf, written, bufferAfter}
 use Rattle.record.specs.Held.{Held}
-use Rattle.record.specs.Read.{read-well-formed}
-use Rattle.record.specs.ReadHeld.{read-held}
 use Rattle.legal.specs.Loop.{loopOf, pairOf}
 use Rattle.legal.specs.Systems.{knotted}
 use Rattle.legal.specs.Handed.{Handed, handed-none, handed-knot}
@@ -32,12 +29,13 @@ use Rattle.tables.specs.declared.Timetable.{Timetable}
 use Rattle.tables.specs.Times.{timesOf}
 use Rattle.knots.specs.Found.{KnotFound}
 use Rattle.record.specs.Early.{read-early}
+use Rattle.record.specs.ReadFirst.{WellRead, first-refused}
 use Rattle.rotation.specs.declared.Plan.{Plan}
 use Rattle.rotation.specs.declared.Scheduled.{Scheduled}
 use Rattle.turning.specs.Pairs.{withTimes}
 use Rattle.turning.specs.Rotation.{firstForm}
 use Rattle.turning.specs.FirstLaws.{first-same, first-written}
-use Rattle.rotation.specs.Scheduling.{scheduleRecord, RecordScheduled, Planned, PlanWritten, firstAsked, unturned}
+use Rattle.rotation.specs.Scheduling.{scheduleRefusal, scheduleRecord, RecordScheduled, Planned, PlanWritten, firstAsked, unturned}
 
 -- a choice goes the same way where the value chosen is the same
 pick-same : {A : Type 0} (b : Bool) (x x′ y : A) → (b ≡ true → x ≡ x′) → pick b x y ≡ pick b x′ y
@@ -96,74 +94,68 @@ module _ (asked : Form → Refusal) (planned : Form → Form) (turned : Form →
   entry-unread b c e =
       let early : numberOf (x .refusal) ≤ 10 = rw back (read-early s) in
       record {
-        refusal = sym (rw (← back) (pick-false (fine (x .refusal)) _ (x .refusal) b));
+        refusal = sym (first-refused s x back (scheduleRefusal asked planned turned (length out)) b);
         size = sym (pick-false (fine (x .refusal)) _ _ b);
         rotations = sym (pick-false (fine (x .refusal)) _ _ b);
         buffer = sym (pick-false (fine (x .refusal)) _ _ b);
         handed = handed-none _ _ (x .refusal) c (λ q. omega arith) (λ q. omega arith) e;
       }
 
-  module _ (bytes : Bytes s) (e : fine (x .refusal) ≡ true) where
-    read-fine : fine (readForm s .refusal) ≡ true
-    read-fine = ap (λ (r : Record). fine (r .refusal)) (sym back) ∙ e
+  -- a form that is planned can be written, with room
+  module _ (read : WellRead s x) (writes : (f : Form) → WellFormed f → Held f → fine (asked f) ≡ true → (room : ℕ) → (refusalOf (planned f) room ≡ None) ⊎ (refusalOf (planned f) room ≡ Room 0))
+      (y : Plan) (plan : Planned asked planned turned (x .form) y) where
+    here : Planned asked planned turned (readForm s .form) y
+    here = subst (λ (q : Record). Planned asked planned turned (q .form) y) back plan
 
-    module _ (writes : (f : Form) → WellFormed f → Held f → fine (asked f) ≡ true → (room : ℕ) → (refusalOf (planned f) room ≡ None) ⊎ (refusalOf (planned f) room ≡ Room 0)) (y : Plan) (plan : Planned asked planned turned (x .form) y) where
-      here : Planned asked planned turned (readForm s .form) y
-      here = subst (λ (q : Record). Planned asked planned turned (q .form) y) back plan
+    -- the reader takes the bytes of the form planned
+    pub plan-taken : fine (y .refusal) ≡ true → fine (readForm (layout (withTimes (x .form) (y .times))) .refusal) ≡ true
+    plan-taken t =
+        subst (λ (f : Form). fine (readForm (layout f) .refusal) ≡ true) (sym (plan .form t))
+        (taken-where (planned (x .form)) 0 (writes (x .form) (read .good) (read .held) (ap fine (sym (plan .refusal)) ∙ t) 0))
 
-      -- the form to be written is the form planned
-      form-here : fine (y .refusal) ≡ true → withTimes (x .form) (y .times) ≡ planned (readForm s .form)
-      form-here t = plan .form t ∙ ap (λ (q : Record). planned (q .form)) back
+    module _ (last : List ℕ) (r : Scheduled) (a : PlanWritten (x .form) y out last r) where
+      -- what is fine in the end was planned
+      was-fine : fine (r .refusal) ≡ true → fine (y .refusal) ≡ true
+      was-fine t = go (fine (y .refusal)) refl
+        where
+          go : (b : Bool) → fine (y .refusal) ≡ b → fine (y .refusal) ≡ true
+          go true q = q
+          go false q = both-ways t (ap fine (a .refusal ∙ pick-false (fine (y .refusal)) _ _ q) ∙ q)
 
-      -- the reader takes the bytes of the form planned
-      pub plan-taken : fine (y .refusal) ≡ true → fine (readForm (layout (withTimes (x .form) (y .times))) .refusal) ≡ true
-      plan-taken t =
-          subst (λ (f : Form). fine (readForm (layout f) .refusal) ≡ true) (sym (form-here t))
-          (taken-where (planned (readForm s .form)) 0
-          (writes (readForm s .form) (read-well-formed s bytes read-fine) (read-held s bytes read-fine) (ap fine (sym (here .refusal)) ∙ t) 0))
+      -- the form that was written is the form planned
+      form-is : fine (r .refusal) ≡ true → withTimes (x .form) (y .times) ≡ planned (readForm s .form)
+      form-is t = plan .form (was-fine t) ∙ ap (λ (q : Record). planned (q .form)) back
 
-      module _ (last : List ℕ) (r : Scheduled) (a : PlanWritten (x .form) y out last r) where
-        -- what is fine in the end was planned
-        was-fine : fine (r .refusal) ≡ true → fine (y .refusal) ≡ true
-        was-fine t = go (fine (y .refusal)) refl
-          where
-            go : (b : Bool) → fine (y .refusal) ≡ b → fine (y .refusal) ≡ true
-            go true q = q
-            go false q = both-ways t (ap fine (a .refusal ∙ pick-false (fine (y .refusal)) _ _ q) ∙ q)
+      handed-on : (b : Bool) → fine (y .refusal) ≡ b → Handed (loopOf (readForm s .form)) (pairOf (readForm s .form)) (r .refusal) (r .cycle)
+      unfolding fine
+      handed-on true t =
+          let is : r .refusal ≡ refusalOf (planned (x .form)) (length out) =
+          a .refusal ∙ pick-true (fine (y .refusal)) _ _ t ∙ ap (λ (f : Form). refusalOf f (length out)) (plan .form t) in
+          let w = writes (x .form) (read .good) (read .held) (ap fine (sym (plan .refusal)) ∙ t) (length out) in
+          let late : (numberOf (r .refusal) ≡ 0) ⊎ (numberOf (r .refusal) ≡ 18) = ⊎-elim (λ q. inl (ap numberOf (is ∙ q))) (λ q. inr (ap numberOf (is ∙ q))) w in
+          handed-none _ _ (r .refusal) (r .cycle)
+          (λ q. ⊎-elim (λ k. omega arith) (λ k. omega arith) late)
+          (λ q. ⊎-elim (λ k. omega arith) (λ k. omega arith) late)
+          (a .cycle ∙ here .handed .none (λ q. both-ways t (ap fine q)) (λ q. both-ways t (ap fine q)))
+      handed-on false t =
+          let is : r .refusal ≡ y .refusal = a .refusal ∙ pick-false (fine (y .refusal)) _ _ t in
+          subst (λ (c : Cycle). Handed (loopOf (readForm s .form)) (pairOf (readForm s .form)) (r .refusal) c) (sym (a .cycle))
+          (subst (λ (q : Refusal). Handed (loopOf (readForm s .form)) (pairOf (readForm s .form)) q (y .cycle)) (sym is) (here .handed))
 
-        form-is : fine (r .refusal) ≡ true → withTimes (x .form) (y .times) ≡ planned (readForm s .form)
-        form-is t = form-here (was-fine t)
-
-        handed-on : (b : Bool) → fine (y .refusal) ≡ b → Handed (loopOf (readForm s .form)) (pairOf (readForm s .form)) (r .refusal) (r .cycle)
-        unfolding fine
-        handed-on true t =
-            let is : r .refusal ≡ refusalOf (planned (readForm s .form)) (length out) =
-            a .refusal ∙ pick-true (fine (y .refusal)) _ _ t ∙ ap (λ (f : Form). refusalOf f (length out)) (form-here t) in
-            let w = writes (readForm s .form) (read-well-formed s bytes read-fine) (read-held s bytes read-fine) (ap fine (sym (here .refusal)) ∙ t) (length out) in
-            let late : (numberOf (r .refusal) ≡ 0) ⊎ (numberOf (r .refusal) ≡ 18) = ⊎-elim (λ q. inl (ap numberOf (is ∙ q))) (λ q. inr (ap numberOf (is ∙ q))) w in
-            handed-none _ _ (r .refusal) (r .cycle)
-            (λ q. ⊎-elim (λ k. omega arith) (λ k. omega arith) late)
-            (λ q. ⊎-elim (λ k. omega arith) (λ k. omega arith) late)
-            (a .cycle ∙ here .handed .none (λ q. both-ways t (ap fine q)) (λ q. both-ways t (ap fine q)))
-        handed-on false t =
-            let is : r .refusal ≡ y .refusal = a .refusal ∙ pick-false (fine (y .refusal)) _ _ t in
-            subst (λ (c : Cycle). Handed (loopOf (readForm s .form)) (pairOf (readForm s .form)) (r .refusal) c) (sym (a .cycle))
-            (subst (λ (q : Refusal). Handed (loopOf (readForm s .form)) (pairOf (readForm s .form)) q (y .cycle)) (sym is) (here .handed))
-
-        -- what becomes of the plan
-        pub entry-planned : RecordScheduled asked planned turned s out last r
-        unfolding scheduleRecord
-        entry-planned = record {
-          refusal =
-              a .refusal
-              ∙ pick-same (fine (y .refusal)) _ _ _ (λ t. ap (λ (f : Form). refusalOf f (length out)) (form-here t))
-              ∙ ap (λ (q : Refusal). pick (fine q) (refusalOf (planned (readForm s .form)) (length out)) q) (here .refusal)
-              ∙ sym (pick-true (fine (readForm s .refusal)) _ _ read-fine);
-          size = a .size ∙ pick-same (fine (r .refusal)) _ _ 0 (λ t. ap (λ (f : Form). length (layout f)) (form-is t));
-          rotations = a .rotations ∙ pick-same (fine (r .refusal)) _ _ 0 (λ t. here .rotations (was-fine t));
-          buffer = a .buffer ∙ pick-same (fine (r .refusal)) _ _ out (λ t. ap (λ (f : Form). sets out 0 (layout f)) (form-is t));
-          handed = handed-on (fine (y .refusal)) refl;
-        }
+      -- what becomes of the plan
+      pub entry-planned : RecordScheduled asked planned turned s out last r
+      unfolding scheduleRecord
+      entry-planned = record {
+        refusal =
+            a .refusal
+            ∙ pick-same (fine (y .refusal)) _ _ _ (λ t. ap (λ (f : Form). refusalOf f (length out)) (plan .form t))
+            ∙ ap (λ (q : Refusal). pick (fine q) (refusalOf (planned (x .form)) (length out)) q) (plan .refusal)
+            ∙ sym (read .asks (scheduleRefusal asked planned turned (length out)));
+        size = a .size ∙ pick-same (fine (r .refusal)) _ _ 0 (λ t. ap (λ (f : Form). length (layout f)) (form-is t));
+        rotations = a .rotations ∙ pick-same (fine (r .refusal)) _ _ 0 (λ t. here .rotations (was-fine t));
+        buffer = a .buffer ∙ pick-same (fine (r .refusal)) _ _ out (λ t. ap (λ (f : Form). sets out 0 (layout f)) (form-is t));
+        handed = handed-on (fine (y .refusal)) refl;
+      }
 
 -- ---- the first schedule
 

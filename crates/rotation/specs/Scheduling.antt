@@ -13,6 +13,7 @@ use Rattle.answer.specs.declared.Refusal.{Refusal}
 use Rattle.answer.specs.declared.Refusal.the-variants.{None, Knot, Size, Long}
 use Rattle.form.specs.declared.Form.{Form}
 use Rattle.reader.specs.Reading.{readForm}
+use Rattle.record.specs.ReadFirst.{readFirst}
 use Rattle.writer.specs.Layout.{layout}
 use Rattle.writer.specs.Writing.{refusalOf}
 use Rattle.legal.specs.Loop.{loopOf, pairOf}
@@ -26,12 +27,13 @@ use Rattle.rotation.specs.declared.Scheduled.{Scheduled}
 
 -- what a form is refused for, its form with the new pair, and the rotations that this takes
 module _ (asked : Form → Refusal) (planned : Form → Form) (turned : Form → ℕ) where
+  -- what is refused of a form, with so much room
+  abbrev pub scheduleRefusal : ℕ → Form → Refusal
+  scheduleRefusal room f = pick (fine (asked f)) (refusalOf (planned f) room) (asked f)
+
   -- what is refused of a record, with so much room
   unfoldable pub scheduleRecord : List ℕ → ℕ → Refusal
-  scheduleRecord s room =
-      pick (fine (readForm s .refusal))
-      (pick (fine (asked (readForm s .form))) (refusalOf (planned (readForm s .form)) room) (asked (readForm s .form)))
-      (readForm s .refusal)
+  scheduleRecord s room = readFirst s (scheduleRefusal room)
 
   pub record RecordScheduled (s out out′ : List ℕ) (r : Scheduled) : Type 0 where
     pub refusal : r .refusal ≡ scheduleRecord s (length out)
