@@ -16,7 +16,7 @@ returns c =
 
 write-taken-requires : tie.Need-write-taken-requires
 write-taken-requires c κs =
-    let r = c .before .before in
+    let r = c .before .before .before in
     taken _ (r .before .before .before .args .out .now) _ (r .read .ensures) (λ i. omega (arith, r .before .before .shared-slice-known .given i))
     (sym (c .before .before .is-fine .ensures) ∙ not-false _ (c .before .if1 .left))
 
