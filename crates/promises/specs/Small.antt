@@ -33,9 +33,9 @@ use Rattle.list_rule.specs.Rule.{uses, inUse, free, blocks, ready, place, fillS
 use Rattle.list_rule.specs.FirstLegal.{firstStarts}
 use Rattle.turning.specs.Turned.{gainedBy, droppedBy}
 use Rattle.turning.specs.TurnedLegal.{turnedStarts}
-use Rattle.turning.specs.Pairs.{withPair}
+use Rattle.plans.specs.Pairs.{withPair}
 use Rattle.turning.specs.Rotation.{firstForm, rotatedStarts, rotatedLength, rotated, tooLong}
-use Rattle.rotation.specs.Scheduling.{firstAsked, turns, rotateAsked}
+use Rattle.rotation.specs.Rotating.{firstAsked, turns, rotateAsked}
 use Rattle.turning.specs.Worked.{smallForm, pairIn}
 use Rattle.search.specs.Search.{halved, stops, shorter, turn, begun, searchFrom, searched}
 use Rattle.search.specs.Searching.{searchAsked, searchForm, searchTurns}

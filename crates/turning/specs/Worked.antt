@@ -24,7 +24,7 @@ use Rattle.list_rule.specs.Rule.{uses, inUse, free, blocks, ready, place, fillS
 use Rattle.list_rule.specs.FirstLegal.{firstStarts}
 use Rattle.turning.specs.Turned.{gainedBy, droppedBy}
 use Rattle.turning.specs.TurnedLegal.{turnedStarts}
-use Rattle.turning.specs.Pairs.{withPair}
+use Rattle.plans.specs.Pairs.{withPair}
 use Rattle.turning.specs.Rotation.{firstForm, rotatedStarts, rotatedLength, rotated, tooLong}
 
 -- class 0 of latency 1, class 1 of latency 2; a multiplication, then two additions, round with two delays

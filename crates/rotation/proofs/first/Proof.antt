@@ -6,10 +6,12 @@ use borrow.Author.Tests.{not-true, not-false}
 use borrow.Author.Needs.{needs}
 use Rattle.record.specs.Read.{read-good}
 use Rattle.record.specs.ReadFirst.{well-read}
+use Rattle.plans.specs.Tabled.{tabled-form}
+use Rattle.plans.specs.Scheduling.{unturned}
+use Rattle.plans.proofs.Entries.{entry-unread, plan-taken, entry-planned}
 use Rattle.turning.specs.Rotation.{firstForm}
-use Rattle.turning.specs.Lending.{tabled-form}
-use Rattle.rotation.specs.Scheduling.{firstAsked, unturned}
-use Rattle.rotation.proofs.Entries.{entry-unread, plan-taken, entry-planned, first-writes}
+use Rattle.rotation.specs.Rotating.{firstAsked}
+use Rattle.rotation.proofs.FirstPlans.{first-writes}
 use Rattle.rotation.proofs.first.Statement.{statement}
 use Rattle.rotation.proofs.first.Tie as tie
 

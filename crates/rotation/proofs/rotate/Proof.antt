@@ -6,9 +6,10 @@ use borrow.Author.Tests.{not-true, not-false}
 use borrow.Author.Needs.{needs}
 use Rattle.record.specs.Read.{read-good}
 use Rattle.record.specs.ReadFirst.{well-read}
-use Rattle.turning.specs.Lending.{tabled-form}
-use Rattle.rotation.specs.Scheduling.{rotateAsked, rotatedBy, unturned}
-use Rattle.rotation.proofs.Entries.{entry-unread, plan-taken, entry-planned}
+use Rattle.plans.specs.Tabled.{tabled-form}
+use Rattle.plans.specs.Scheduling.{unturned}
+use Rattle.plans.proofs.Entries.{entry-unread, plan-taken, entry-planned}
+use Rattle.rotation.specs.Rotating.{rotateAsked, rotatedBy}
 use Rattle.rotation.proofs.Rotates.{rotate-writes}
 use Rattle.rotation.proofs.rotate.Statement.{statement}
 use Rattle.rotation.proofs.rotate.Tie as tie

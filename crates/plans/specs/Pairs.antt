@@ -18,9 +18,9 @@ use Rattle.tables.specs.Times.{timesOf}
 abbrev pub asBodyStep : ℕ → BodyStep
 asBodyStep n = record { 0 = n }
 
--- the form with the starts, length and retimings given
-unfoldable pub withPair : Form → List ℕ → ℕ → List ℕ → Form
-withPair f s l r = record {
+-- the form with the steps, length and retimings given
+abbrev pub withSteps : Form → List BodyStep → ℕ → List ℕ → Form
+withSteps f s l r = record {
   classes = f .classes;
   nodes = f .nodes;
   edges = f .edges;
@@ -30,9 +30,13 @@ withPair f s l r = record {
   from = f .from;
   to = f .to;
   delays = f .delays;
-  start = map asBodyStep s;
+  start = s;
   retiming = r;
 }
+
+-- the form with the starts, length and retimings given
+unfoldable pub withPair : Form → List ℕ → ℕ → List ℕ → Form
+withPair f s l r = withSteps f (map asBodyStep s) l r
 
 -- the form with the pair of a timetable
 unfoldable pub withTimes : Form → Timetable → Form

@@ -10,7 +10,7 @@ use Rattle.lists.specs.Filled.{filled, fill-none, fill-more, filled-at, filled-
 use Rattle.form.specs.declared.Form.{Form}
 use Rattle.form.specs.declared.BodyStep.{BodyStep}
 use Rattle.tables.specs.declared.Timetable.{Timetable}
-use Rattle.turning.specs.Pairs.{asBodyStep, withPair, withTimes}
+use Rattle.plans.specs.Pairs.{asBodyStep, withSteps, withPair, withTimes}
 
 step-set : (xs : List ℕ) (v a : ℕ) → set (map asBodyStep xs) v (asBodyStep a) ≡ map asBodyStep (set xs v a)
 step-set [] v a = refl
@@ -40,22 +40,7 @@ module _ (s : List ℕ) where
       ap (λ (n : ℕ). map asBodyStep (filled 64 (λ u. getD s u 0) n)) e
       ∙ ap (map asBodyStep) (ext-getD 0 (filled 64 (λ u. getD s u 0) 64) s (omega (arith, whole, long)) (λ u l. filled-at 64 (λ u. getD s u 0) 64 u (omega (arith, whole))))
 
--- what the fields of a form are set to
-abbrev withSteps : Form → List BodyStep → ℕ → List ℕ → Form
-withSteps f s l r = record {
-  classes = f .classes;
-  nodes = f .nodes;
-  edges = f .edges;
-  length = l;
-  class = f .class;
-  node = f .node;
-  from = f .from;
-  to = f .to;
-  delays = f .delays;
-  start = s;
-  retiming = r;
-}
-
+-- the fields of a form set to a timetable's
 pub stored : (f : Form) (t : Timetable) (steps : List BodyStep) → steps ≡ map asBodyStep (t .start) → withSteps f steps (t .length) (t .retiming) ≡ withTimes f t
 unfolding withTimes withPair
 stored f t steps e = ap (λ (s : List BodyStep). withSteps f s (t .length) (t .retiming)) e
