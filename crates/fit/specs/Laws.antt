@@ -85,7 +85,7 @@ module _ (f : Form) (w : WellFormed f) (n : f .header .length ≢ 0) (q : Settle
   }
 
   -- the reader takes its bytes
-  pub fitted-taken : Held f → fine (readForm (layout (fittedForm f)) .refusal) ≡ true
+  fitted-taken : Held f → fine (readForm (layout (fittedForm f)) .refusal) ≡ true
   unfolding fine
   fitted-taken h = ap (λ (x : Record). fine (x .refusal)) (well-formed-written (fittedForm f) (fitted-held h) fitted-well-formed)
 

@@ -1,6 +1,5 @@
 pub mod Tables
 pub mod Retimed
 pub mod Fitting
-pub mod Planned
 pub mod Retimings
 pub mod Laws

@@ -1,27 +1,25 @@
 // Fitting a retiming to given starts.
-ghost use mathlib.Core.Bool.{true};
 ghost use mathlib.Core.Logic.{_≢_};
 ghost use mathlib.Core.Path.{_≡_};
 ghost use Prim.Native.Nat.{ℕ, _+_, _-_, _/_, _≤_, _<_};
-ghost use lib.ListN.{length, getD, take, replicate};
+ghost use lib.ListN.{getD, take};
 ghost use Rattle.lists.specs.Fold.{top};
 ghost use Rattle.form.specs.declared.Form.{Form};
-ghost use Rattle.answer.specs.Refused.{fine};
 ghost use Rattle.legal.specs.Loop.{Loop, Pair, loopOf, pairOf};
 ghost use Rattle.tables.specs.Edges.{Ends, Told};
 ghost use Rattle.tables.specs.Times.{Timed};
 ghost use Rattle.tables.specs.Lent.{Lent};
 ghost use Rattle.rules.specs.Busy.{StartsIn};
-ghost use Rattle.reader.specs.Reading.{readForm};
-ghost use Rattle.writer.specs.Layout.{layout};
-ghost use Rattle.writer.specs.Writing.{bufferAfter};
+ghost use Rattle.plans.specs.Pairs.{SameButPair};
+ghost use Rattle.plans.specs.Tabled.{Tabled};
+ghost use Rattle.plans.specs.Scheduling.{unturned, Planned};
 ghost use Rattle.fit.specs.Tables.{Limited, turnedOver, LimitsTabled};
-ghost use Rattle.fit.specs.Retimed.{withRetiming, StartsFitted, TablesFitted};
-ghost use Rattle.fit.specs.Planned.{FitPlanned, fittedAnswer};
-ghost use Rattle.fit.specs.Fitting.{RecordFitted};
+ghost use Rattle.fit.specs.Retimed.{fittedForm, StartsFitted, TablesFitted};
+ghost use Rattle.fit.specs.Fitting.{fitOf, RecordFitted};
 use answer::Cycle;
 use answer::Refusal;
-use form::Form;
+use plans::Plan;
+use plans::Scheduled;
 use tables::Timetable;
 use widths::wide;
 
@@ -30,20 +28,6 @@ pub struct Fitting {
     pub fits: bool,
     pub retiming: [u8; 64],
     pub cycle: Cycle,
-}
-
-// What a fit answers: the size of the record written, or the refusal with its cycle and 0.
-pub struct Fitted {
-    pub refusal: Refusal,
-    pub size: u32,
-    pub cycle: Cycle,
-}
-
-// What becomes of a form: the retiming that fits, or the refusal with its cycle and retimings 0.
-struct Plan {
-    refusal: Refusal,
-    retiming: [u8; 64],
-    cycle: Cycle,
 }
 
 // What each edge gains and costs the retimings, in tables that can be lent.
@@ -172,18 +156,7 @@ pub fn fit_starts<'a>(
     fit_limits(times.nodes, edges, from, to, limits)
 }
 
-// A refusal of a form, and the cycle that proves it.
-fn unplanned(refusal: Refusal, cycle: Cycle) -> Plan
-    ensures { λ r. ⌜ r ≡ record { refusal = refusal; retiming = replicate 64 0; cycle = cycle } ⌝ }
-{
-    Plan {
-        refusal,
-        retiming: [0; 64],
-        cycle,
-    }
-}
-
-// Bare, Knot, NoRetiming, Units, else the retiming that fits. The unit rule asks the starts alone.
+// Bare, Knot, NoRetiming, Units, else the timetable with the retiming that fits. The unit rule asks the starts alone.
 fn plan_tables<'a>(
     edges: u16,
     from: &'a [u8; 256],
@@ -192,65 +165,40 @@ fn plan_tables<'a>(
     times: Timetable,
 ) -> Plan
     requires { ⌜ ((f : Form) × Lent f edges (now from) (now to) (now delays) times) ⌝ }
-    ensures { λ r. ⌜ ((f : Form) → Lent f edges (now (from .entry)) (now (to .entry)) (now (delays .entry)) times → FitPlanned f r) ⌝ }
+    ensures { λ r. ⌜ ((f : Form) → Tabled f edges (now (from .entry)) (now (to .entry)) (now (delays .entry)) times → SameButPair f f → Planned fitOf fittedForm unturned f r) ⌝ }
 {
     if times.length == 0 {
-        return unplanned(Refusal::Bare, Cycle::none());
+        return plans::uncounted(Refusal::Bare, Cycle::none(), times);
     }
     let knot = knots::knot_of(times.nodes, edges, from, to, delays);
     if 0 < knot.count {
-        return unplanned(Refusal::Knot, knot);
+        return plans::uncounted(Refusal::Knot, knot, times);
     }
     let fitting = fit_starts(edges, from, to, delays, times);
     let cycle = fitting.cycle;
     if !fitting.fits {
-        return unplanned(Refusal::NoRetiming, cycle);
+        return plans::uncounted(Refusal::NoRetiming, cycle, times);
     }
+    let crowded = rules::crowded(times);
     let retiming = fitting.retiming;
-    Plan {
-        refusal: rules::crowded(times),
-        retiming,
-        cycle,
-    }
-}
-
-// The form's record with the retiming that fits, into `out`.
-fn write_fitted(mut form: Form, plan: Plan, out: &mut [u8]) -> Fitted
-    requires { ⌜ fine (readForm (layout (withRetiming form (plan .retiming))) .refusal) ≡ true ⌝ }
-    ensures { λ r. ⌜ r ≡ fittedAnswer form plan (length (now (out .entry))) ⌝ }
-    ensures { λ _. ⌜ now (out .exit) ≡ bufferAfter (withRetiming form (plan .retiming)) (now (out .entry)) ⌝ }
-{
-    let retiming = plan.retiming;
-    form.retiming = retiming;
-    let written = writer::write_taken(form, out);
-    let refusal = written.refusal;
-    let cycle = plan.cycle;
-    Fitted {
-        refusal,
-        size: written.size,
-        cycle,
-    }
-}
-
-// A refusal, and the cycle that proves it.
-fn unfitted(refusal: Refusal, cycle: Cycle) -> Fitted
-    ensures { λ r. ⌜ r ≡ record { refusal = refusal; size = 0; cycle = cycle } ⌝ }
-{
-    Fitted {
-        refusal,
-        size: 0,
-        cycle,
-    }
+    let mut fitted = times;
+    fitted.retiming = retiming;
+    plans::uncounted(crowded, cycle, fitted)
 }
 
 // The record with a retiming that fits its starts, into `out`; a refusal leaves `out` as it was.
-pub fn fit(record: &[u8], out: &mut [u8]) -> Fitted
+pub fn fit(record: &[u8], out: &mut [u8]) -> Scheduled
     ensures { λ r. ⌜ RecordFitted (now («record» .entry)) (now (out .entry)) (now (out .exit)) r ⌝ }
 {
     let read = reader::read(record);
     let unread = read.refusal;
     if !unread.is_fine() {
-        return unfitted(unread, Cycle::none());
+        return Scheduled {
+            refusal: unread,
+            size: 0,
+            rotations: 0,
+            cycle: Cycle::none(),
+        };
     }
     let times = tables::times_of(read.form);
     let plan = plan_tables(
@@ -260,10 +208,5 @@ pub fn fit(record: &[u8], out: &mut [u8]) -> Fitted
         &read.form.delays,
         times,
     );
-    let refusal = plan.refusal;
-    let cycle = plan.cycle;
-    if !refusal.is_fine() {
-        return unfitted(refusal, cycle);
-    }
-    write_fitted(read.form, plan, out)
+    plans::write_plan(read.form, plan, out)
 }

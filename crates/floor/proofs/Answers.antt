@@ -30,6 +30,7 @@ use Rattle.tables.specs.Most.{mostOf}
 use Rattle.tables.specs.Times.{Timed}
 use Rattle.knots.specs.Found.{KnotFound}
 use Rattle.record.specs.Early.{read-early}
+use Rattle.record.specs.ReadFirst.{first-refused, first-asked}
 use Rattle.floor_part.specs.declared.Part.{Part}
 use Rattle.floor_part.specs.declared.Part.the-variants as part
 use Rattle.floor.specs.declared.Floored.{Floored}
@@ -164,7 +165,7 @@ module _ (s : List ℕ) (r : Record) (back : r ≡ readForm s) where
         let n : numberOf (j .refusal) ≤ 10 = rw (e .0, back) (read-early s) in
         let unfit : fine (j .refusal) ≡ false = ap fine (e .0) ∙ f in
         record {
-          refusal = e .0 ∙ sym (rw (← back) (pick-false (fine (r .refusal)) (floorRefusal (r .form)) (r .refusal) f));
+          refusal = e .0 ∙ sym (first-refused s r back floorRefusal f);
           floor = e .1 ∙ sym (pick-false (fine (j .refusal)) (floorLength (loopOf (readForm s .form))) 0 unfit);
           part = e .2 ∙ sym (pick-false (fine (j .refusal)) (partOf (loopOf (readForm s .form))) part.None unfit);
           cycle = alone-cycle _ j (λ k. omega arith) (λ k. omega (arith, ap partNumber (e .2))) (e .3);
@@ -173,7 +174,7 @@ module _ (s : List ℕ) (r : Record) (back : r ≡ readForm s) where
     pub record-floored : fine (r .refusal) ≡ true → FormFloored (r .form) j → RecordFloored s j
     unfolding floorRecord
     record-floored f t = record {
-      refusal = t .refusal ∙ sym (rw (← back) (pick-true (fine (r .refusal)) (floorRefusal (r .form)) (r .refusal) f));
+      refusal = t .refusal ∙ sym (first-asked s r back floorRefusal f);
       floor = rw (← back) (t .floor);
       part = rw (← back) (t .part);
       cycle = rw (← back) (t .cycle);

@@ -14,6 +14,7 @@ use Rattle.answer.specs.declared.Refusal.{Refusal}
 use Rattle.answer.specs.declared.Refusal.the-variants as refusal
 use Rattle.form.specs.declared.Form.{Form}
 use Rattle.reader.specs.Reading.{readForm}
+use Rattle.record.specs.ReadFirst.{readFirst}
 use Rattle.system.specs.System.{Losing}
 use Rattle.legal.specs.Loop.{Loop, loopOf}
 use Rattle.legal.specs.Legal.{Knot}
@@ -50,7 +51,7 @@ pub record FormFloored (f : Form) (r : Floored) : Type 0 where
 
 -- what is refused of the bytes, else of the form that they hold
 unfoldable pub floorRecord : List ℕ → Refusal
-floorRecord s = pick (fine (readForm s .refusal)) (floorRefusal (readForm s .form)) (readForm s .refusal)
+floorRecord s = readFirst s floorRefusal
 
 pub record RecordFloored (s : List ℕ) (r : Floored) : Type 0 where
   pub refusal : r .refusal ≡ floorRecord s

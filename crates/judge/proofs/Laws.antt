@@ -18,6 +18,7 @@ use Rattle.form.specs.declared.Form.{Form}
 use Rattle.reader.specs.declared.Record.{Record}
 use Rattle.reader.specs.Reading.{readForm}
 use Rattle.record.specs.Early.{read-early}
+use Rattle.record.specs.ReadFirst.{first-refused, first-asked}
 use Rattle.legal.specs.Loop.{Loop, Pair, loopOf, pairOf}
 use Rattle.legal.specs.Systems.{knotted}
 use Rattle.legal.specs.Judging.{brokenEdge, overStep, unitsOf, rulesOf, judgeOf}
@@ -84,13 +85,13 @@ module _ (s : List ℕ) (r : Record) (back : r ≡ readForm s) where
     record-refused f e z =
         let n : numberOf (j .refusal) ≤ 10 = rw (e, back) (read-early s) in
         record {
-          refusal = e ∙ sym (rw (← back) (pick-false (fine (r .refusal)) (judgeOf (r .form)) (r .refusal) f));
+          refusal = e ∙ sym (first-refused s r back judgeOf f);
           handed = handed-none _ _ _ _ (λ k. omega arith) (λ k. omega arith) z;
         }
 
     pub record-judged : fine (r .refusal) ≡ true → Judgement (r .form) j → RecordJudgement s j
     unfolding judgeRecord
     record-judged f t = record {
-      refusal = t .refusal ∙ sym (rw (← back) (pick-true (fine (r .refusal)) (judgeOf (r .form)) (r .refusal) f));
+      refusal = t .refusal ∙ sym (first-asked s r back judgeOf f);
       handed = rw (← back) (t .handed);
     }

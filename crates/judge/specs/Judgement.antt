@@ -3,11 +3,10 @@
 use mathlib.Core.Path.{_≡_}
 use mathlib.Core.List.{List}
 use Prim.Native.Nat.{ℕ}
-use Rattle.lists.specs.Pick.{pick}
-use Rattle.answer.specs.Refused.{fine}
 use Rattle.answer.specs.declared.Refusal.{Refusal}
 use Rattle.form.specs.declared.Form.{Form}
 use Rattle.reader.specs.Reading.{readForm}
+use Rattle.record.specs.ReadFirst.{readFirst}
 use Rattle.legal.specs.Loop.{loopOf, pairOf}
 use Rattle.legal.specs.Judging.{judgeOf}
 use Rattle.legal.specs.Handed.{Handed}
@@ -19,7 +18,7 @@ pub record Judgement (f : Form) (r : Judged) : Type 0 where
 
 -- what is refused of the bytes, else of the form that they hold
 unfoldable pub judgeRecord : List ℕ → Refusal
-judgeRecord s = pick (fine (readForm s .refusal)) (judgeOf (readForm s .form)) (readForm s .refusal)
+judgeRecord s = readFirst s judgeOf
 
 pub record RecordJudgement (s : List ℕ) (r : Judged) : Type 0 where
   pub refusal : r .refusal ≡ judgeRecord s

@@ -1,45 +1,24 @@
--- What the proofs of the list rule share: tests, starts as numbers, and counts.
+-- What the proofs of the list rule share: tests and counts.
 -- Assumes nothing.
-use mathlib.Core.Path.{_≡_, refl, sym, ap, _∙_}
+use mathlib.Core.Path.{_≡_, refl, ap}
 use mathlib.Core.Bool.{Bool, true, false, _&&_}
 use mathlib.Core.Logic.{_≢_}
-use mathlib.Core.List.{List, [], _∷_, map}
+use mathlib.Core.List.{List, [], _∷_}
 use Prim.Native.Nat.{ℕ, zero, suc, _+_, _≤_, _<_}
 use native.Mathlib.Nat.{zero-add, not-suc-le-zero}
 use native.Mathlib.Numerals.{add-one}
 use native.Mathlib.Omega.{arith}
 use native.Mathlib.Decide.{ℕ-discrete}
-use lib.ListN.{length, getD, length-map, List·getD-map}
+use lib.ListN.{length}
 use borrow.Author.Needs.{needs}
 use borrow.Author.Tests.{le-ltb, lt-ltb, le-leb, lt-leb, eq-eqb, ne-eqb}
 use Rattle.lists.specs.Pick.{pick, pick-true, pick-false, pick-ind}
 use Rattle.lists.specs.Span.{span, span-length}
 use Rattle.lists.specs.Fold.{count, count-snoc}
 use Rattle.lists.specs.Count.{count-same}
-use Rattle.form.specs.declared.Form.{Form}
-use Rattle.form.specs.declared.BodyStep.{BodyStep}
-use Rattle.form.specs.Places.{noStep, startOf}
-use Rattle.list_rule.specs.Rule.{startNumber}
-use Rattle.list_rule.specs.Tables.{numbersOf, startsOf}
-
--- an array of structs stands in the machine as the list of their values
-pub length-mapped : {X Y : Type 0} (f : X → Y) (l : List X) (n : ℕ) → length (map f l) ≡ n → length l ≡ n
-length-mapped f l n p = sym (length-map l f) ∙ p
 
 -- a definition's tests, settled from what a branch showed
-pub ruleset tests = (needs, length-mapped, le-ltb, lt-ltb, le-leb, lt-leb, eq-eqb, ne-eqb)
-
-pub numbers-length : (s : List BodyStep) → length (numbersOf s) ≡ length s
-unfolding numbersOf
-numbers-length s = length-map s (λ b. b .0)
-
-pub number-at : (s : List BodyStep) (v : ℕ) → getD (numbersOf s) v 0 ≡ getD s v noStep .0
-unfolding numbersOf
-number-at s v = List·getD-map (λ b. b .0) s v noStep
-
-pub start-at : (f : Form) (v : ℕ) → startOf f v ≡ startNumber (startsOf f) v
-unfolding startsOf
-start-at f v = sym (number-at (f .start) v)
+pub ruleset tests = (needs, le-ltb, lt-ltb, le-leb, lt-leb, eq-eqb, ne-eqb)
 
 pub both-false : (b : Bool) → b && false ≡ false
 both-false true = refl

@@ -1,29 +1,19 @@
--- The tables of the list rule: starts as numbers, units in use by step and class, edges that a node waits for.
+-- The tables of the list rule: units in use by step and class, edges that a node waits for.
 -- Assumes nothing.
 use mathlib.Core.Path.{_≡_}
 use mathlib.Core.Bool.{Bool, _&&_, _||_}
-use mathlib.Core.List.{List, map}
+use mathlib.Core.List.{List}
 use Prim.Native.Nat.{ℕ, _+_, _*_, _≤_, _<_}
 use lib.Dec.{eqb, ltb, leb}
 use lib.ListN.{length, getD}
 use Rattle.lists.specs.Pick.{pick}
 use Rattle.lists.specs.Span.{span}
 use Rattle.lists.specs.Fold.{count}
-use Rattle.form.specs.declared.Form.{Form}
-use Rattle.form.specs.declared.BodyStep.{BodyStep}
 use Rattle.form.specs.declared.Class.{Class}
 use Rattle.form.specs.Places.{noClass}
 use Rattle.form.specs.Hold.{hold}
 use Rattle.tables.specs.declared.Timetable.{Timetable}
 use Rattle.list_rule.specs.Rule.{startNumber}
-
--- the numbers of the steps in a table of starts
-unfoldable pub numbersOf : List BodyStep → List ℕ
-numbersOf s = map (λ b. b .0) s
-
--- the starts of a form
-unfoldable pub startsOf : Form → List ℕ
-startsOf f = numbersOf (f .start)
 
 -- the weights in a table
 abbrev pub weightOf : List ℕ → ℕ → ℕ

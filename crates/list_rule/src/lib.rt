@@ -75,24 +75,24 @@ fn raise(busy: &mut [u8; 4128], begins: u16, class: u8, hold: u16)
     }
 }
 
-// The units in use by the starts given.
-fn busy_of<'a>(
+// The units in use by the starts given, into a table in which none is.
+fn fill_busy<'a>(
+    busy: &'a mut [u8; 4128],
     nodes: u8,
     classes: [Class; 4],
     runs: &'a [u8; 64],
     start: &'a [u16; 64],
-) -> [u8; 4128]
+)
+    requires { ⌜ (length (now busy) ≡ 4128) × ((i : ℕ) → getD (now busy) i 0 ≡ 0) ⌝ }
     requires { ⌜ (nodes ≤ 64) × ((v : ℕ) → v < nodes → OnBoard classes (now runs) v × (getD (now start) v 0 ≤ 1024)) ⌝ }
-    ensures { λ r. ⌜ Used classes (now (runs .entry)) (now (start .entry)) nodes r ⌝ }
+    ensures { λ _. ⌜ Used classes (now (runs .entry)) (now (start .entry)) nodes (now (busy .exit)) ⌝ }
 {
-    let mut busy = idle();
     for v in 0..nodes {
         let i = v as usize;
         let number = runs[i];
         let class = classes[number as usize];
-        raise(&mut busy, start[i], number, wide(hold_of(class)));
+        raise(busy, start[i], number, wide(hold_of(class)));
     }
-    busy
 }
 
 // How many nodes are not placed.
@@ -172,7 +172,8 @@ pub fn list_rule<'a>(
     let weight = reach::weights(nodes, edges, from, to, delays, &times.retiming);
     let order = order_of(nodes, &weight);
     let mut start = times.start;
-    let mut busy = busy_of(nodes, classes, &times.runs, &times.start);
+    let mut busy = idle();
+    fill_busy(&mut busy, nodes, classes, &times.runs, &times.start);
     'steps: for p in 1..1024u16 {
         if unplaced(nodes, &start) == 0 {
             break 'steps;

@@ -1,7 +1,7 @@
 -- A record that the judge accepts can be shown: its numbers are small, and the floor worked out is its loop's.
 -- Assumes nothing.
 use mathlib.Core.Path.{_≡_, refl, sym, ap, subst, _∙_}
-use mathlib.Core.Bool.{Bool, true, false}
+use mathlib.Core.Bool.{true, false}
 use mathlib.Core.List.{List}
 use Prim.Native.Nat.{ℕ, _≤_}
 use native.Mathlib.Omega.{arith}
@@ -16,6 +16,7 @@ use Rattle.field.specs.Number.{Bytes}
 use Rattle.reader.specs.declared.Record.{Record}
 use Rattle.reader.specs.Reading.{readForm}
 use Rattle.record.specs.Read.{read-well-formed}
+use Rattle.record.specs.ReadFirst.{first-refused, first-asked, neither-refused}
 use Rattle.legal.specs.Loop.{loopOf, pairOf}
 use Rattle.legal.specs.Shape.{sound-form, plain-form}
 use Rattle.legal.specs.Systems.{knotted}
@@ -64,17 +65,15 @@ numbered (Busy a b c) = record { small = omega arith; none = λ h. absurd (omega
 -- the judge accepts a form that the reader read
 accepted : (s : List ℕ) → numberOf (judgeRecord s) ≡ 0 → (fine (readForm s .refusal) ≡ true) × (judgeOf (readForm s .form) ≡ None)
 unfolding judgeRecord fine
-accepted s h = go (fine (readForm s .refusal)) refl
-  where
-    go : (b : Bool) → fine (readForm s .refusal) ≡ b → (fine (readForm s .refusal) ≡ true) × (judgeOf (readForm s .form) ≡ None)
-    go true e = (e, numbered (judgeOf (readForm s .form)) .none (sym (ap numberOf (pick-true _ _ _ e)) ∙ h))
-    go false e = both-ways (eq-eqb (numberOf (readForm s .refusal)) 0 (sym (ap numberOf (pick-false _ _ _ e)) ∙ h)) e
+accepted s h =
+    let t = neither-refused s judgeOf (eq-eqb (numberOf (judgeRecord s)) 0 h) in
+    (t .0, numbered (judgeOf (readForm s .form)) .none (eqb-true (numberOf (judgeOf (readForm s .form))) 0 (t .1)))
 
 module _ (s : List ℕ) (r : Floored) (t : RecordFloored s r) (reads : fine (readForm s .refusal) ≡ true) (free : knotted (loopOf (readForm s .form)) ≡ false) where
   -- a loop without a knot is not refused its floor
   floor-fine : r .refusal ≡ None
   unfolding floorRecord floorRefusal
-  floor-fine = t .refusal ∙ pick-true _ _ _ reads ∙ pick-false _ _ _ free
+  floor-fine = t .refusal ∙ first-asked s (readForm s) refl floorRefusal reads ∙ pick-false _ _ _ free
 
   floor-is : r .floor ≡ floorLength (loopOf (readForm s .form))
   unfolding fine
@@ -119,7 +118,7 @@ module _ (s : List ℕ) (x : Record) (tx : x ≡ readForm s) where
   pub read-viewed : fine (x .refusal) ≡ false → (v : View) → (v .number ≡ numberOf (x .refusal)) × (v .form ≡ x .form) → Viewed s v
   unfolding judgeRecord
   read-viewed unfit v e =
-      refused-viewed (x .refusal) unfit (sym (rw (← tx) (pick-false (fine (x .refusal)) (judgeOf (x .form)) (x .refusal) unfit))) v e
+      refused-viewed (x .refusal) unfit (sym (first-refused s x tx judgeOf unfit)) v e
 
   -- the judge's, and a form that it accepts
   module _ (reads : fine (x .refusal) ≡ true) (j : Judged) (judged : Judgement (x .form) j) where

@@ -27,6 +27,7 @@ use Rattle.legal.specs.Handed.{Handed, handed-none, handed-knot}
 use Rattle.machine.specs.Unique.{Ranks}
 use Rattle.knots.specs.Found.{KnotFound}
 use Rattle.record.specs.Early.{read-early}
+use Rattle.record.specs.ReadFirst.{first-refused, first-asked}
 use Rattle.plain.specs.declared.Looped.{Looped}
 use Rattle.plain.specs.Answer.{roomOf, plainOf, plainRecord, FormLooped, RecordLooped}
 use Rattle.plain.specs.Ascending.{ascending-sorts}
@@ -118,7 +119,7 @@ module _ (s : List ℕ) (x : Record) (back : x ≡ readForm s) (k : ℕ) (starts
   record-refused f e z same =
       let n : numberOf (r .refusal) ≤ 10 = rw (e, back) (read-early s) in
       record {
-        refusal = e ∙ sym (rw (← back) (pick-false (fine (x .refusal)) (plainOf (loopOf (x .form)) k (length starts) (length before)) (x .refusal) f));
+        refusal = e ∙ sym (first-refused s x back (λ g. plainOf (loopOf g) k (length starts) (length before)) f);
         handed = handed-none _ _ _ _ (λ q. omega arith) (λ q. omega arith) z;
         done = λ good. both-ways good (ap fine e ∙ f);
         untouched = λ bad. same;
@@ -127,7 +128,7 @@ module _ (s : List ℕ) (x : Record) (back : x ≡ readForm s) (k : ℕ) (starts
   pub record-looped : fine (x .refusal) ≡ true → FormLooped (x .form) k starts before after r → RecordLooped s k starts before after r
   unfolding plainRecord
   record-looped f t = record {
-    refusal = t .refusal ∙ sym (rw (← back) (pick-true (fine (x .refusal)) (plainOf (loopOf (x .form)) k (length starts) (length before)) (x .refusal) f));
+    refusal = t .refusal ∙ sym (first-asked s x back (λ g. plainOf (loopOf g) k (length starts) (length before)) f);
     handed = rw (← back) (t .handed);
     done = rw (← back) (t .done);
     untouched = t .untouched;

@@ -12,6 +12,7 @@ use Rattle.answer.specs.declared.Refusal.{Refusal}
 use Rattle.answer.specs.declared.Refusal.the-variants.{None, Knot, Room}
 use Rattle.form.specs.declared.Form.{Form}
 use Rattle.reader.specs.Reading.{readForm}
+use Rattle.record.specs.ReadFirst.{readFirst}
 use Rattle.legal.specs.Loop.{Loop, loopOf, pairOf}
 use Rattle.legal.specs.Systems.{knotted}
 use Rattle.legal.specs.Handed.{Handed}
@@ -28,7 +29,7 @@ plainOf g k starts values = pick (knotted g) Knot (roomOf (g .graph .nodes) k st
 
 -- what is refused of the bytes, else of the loop that they hold, with tables of these lengths
 unfoldable pub plainRecord : List ℕ → ℕ → ℕ → ℕ → Refusal
-plainRecord s k starts values = pick (fine (readForm s .refusal)) (plainOf (loopOf (readForm s .form)) k starts values) (readForm s .refusal)
+plainRecord s k starts values = readFirst s (λ f. plainOf (loopOf f) k starts values)
 
 -- the values of k iterations stand in the buffer, and its places past them are as they were
 pub record Ran (g : Loop) (k : ℕ) (starts before after : List ℕ) : Type 0 where

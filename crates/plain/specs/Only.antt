@@ -15,6 +15,7 @@ use Rattle.answer.specs.declared.Refusal.{Refusal}
 use Rattle.field.specs.Number.{Bytes}
 use Rattle.reader.specs.Reading.{readForm}
 use Rattle.record.specs.Read.{read-well-formed}
+use Rattle.record.specs.ReadFirst.{neither-refused}
 use Rattle.legal.specs.Loop.{Loop, loopOf}
 use Rattle.legal.specs.Shape.{Sound, sound-form}
 use Rattle.legal.specs.Systems.{knotted}
@@ -28,14 +29,6 @@ plain-free : (g : Loop) (k starts values : ℕ) → fine (plainOf g k starts val
 unfolding plainOf fine
 plain-free g k starts values =
     pick-ind (λ (r : Refusal). fine r ≡ true → knotted g ≡ false) (knotted g) _ _ (λ e f. both-ways f refl) (λ e f. e)
-
--- and the reader refuses nothing
-record-fine : (s : List ℕ) (k starts values : ℕ) → fine (plainRecord s k starts values) ≡ true
-    → (fine (readForm s .refusal) ≡ true) × (fine (plainOf (loopOf (readForm s .form)) k starts values) ≡ true)
-unfolding plainRecord
-record-fine s k starts values =
-    pick-ind (λ (r : Refusal). fine r ≡ true → (fine (readForm s .refusal) ≡ true) × (fine (plainOf (loopOf (readForm s .form)) k starts values) ≡ true))
-    (fine (readForm s .refusal)) _ _ (λ e f. (e, f)) (λ e f. both-ways f e)
 
 -- two buffers after the same loop are the same
 ran-once : (g : Loop) → Sound g → Free g → (k : ℕ) (starts before xs ys : List ℕ) → Ran g k starts before xs → Ran g k starts before ys → xs ≡ ys
@@ -52,6 +45,7 @@ ran-once g sound free k starts before xs ys a b = ext-getD 0 xs ys (a .kept .lon
 -- the record, the number of iterations and the lent tables settle the refusal and the values
 pub settled : (s : List ℕ) → Bytes s → (k : ℕ) (starts before xs ys : List ℕ) (r q : Looped)
     → RecordLooped s k starts before xs r → RecordLooped s k starts before ys q → (r .refusal ≡ q .refusal) × (xs ≡ ys)
+unfolding plainRecord
 settled s bytes k starts before xs ys r q a b = (same, go (fine (r .refusal)) refl)
   where
     same : r .refusal ≡ q .refusal
@@ -59,7 +53,7 @@ settled s bytes k starts before xs ys r q a b = (same, go (fine (r .refusal)) re
 
     go : (t : Bool) → fine (r .refusal) ≡ t → xs ≡ ys
     go true f =
-        let good = record-fine s k (length starts) (length before) (sym (ap fine (a .refusal)) ∙ f) in
+        let good = neither-refused s (λ f. plainOf (loopOf f) k (length starts) (length before)) (sym (ap fine (a .refusal)) ∙ f) in
         let sound = sound-form (readForm s .form) (read-well-formed s bytes (good .0)) in
         ran-once (loopOf (readForm s .form)) sound (unknotted-free (loopOf (readForm s .form)) (plain-free (loopOf (readForm s .form)) k (length starts) (length before) (good .1))) k starts before xs ys (a .done f) (b .done (sym (ap fine same) ∙ f))
     go false f = a .untouched f ∙ sym (b .untouched (sym (ap fine same) ∙ f))

@@ -28,11 +28,11 @@ use Rattle.legal.specs.Loop.{Loop, Pair}
 use Rattle.legal.specs.Handed.{Handed}
 use Rattle.judge.specs.declared.Judged.{Judged}
 use Rattle.judge.specs.Judgement.{RecordJudgement}
-use Rattle.fit.specs.declared.Fitted.{Fitted}
-use Rattle.fit.specs.Fitting.{fitRecord, fitBuffer, RecordFitted}
+use Rattle.fit.specs.Retimed.{fittedForm}
+use Rattle.fit.specs.Fitting.{fitOf, RecordFitted}
 use Rattle.writer.specs.Layout.{layout}
-use Rattle.rotation.specs.declared.Scheduled.{Scheduled}
-use Rattle.rotation.specs.Scheduling.{RecordScheduled}
+use Rattle.plans.specs.declared.Scheduled.{Scheduled}
+use Rattle.plans.specs.Scheduling.{RecordScheduled, unturned}
 use Rattle.field.specs.Number.{Bytes}
 use Rattle.run.specs.declared.Ran.{Ran}
 use Rattle.run.specs.Running.{asked, stepsOf, RecordRun}
@@ -118,23 +118,6 @@ judge-settled s a b p q =
     let same : a .refusal ≡ b .refusal = settled (a .refusal) (b .refusal) (p .refusal) (q .refusal) in
     (same, λ k n. cycle-settled _ _ _ _ _ _ (p .handed) (q .handed) same k n)
 
--- fitting: the refusal, the size and the buffer are settled, and so is the cycle where none is handed over
-pub fit-settled : (s out after again : List ℕ) (a b : Fitted) → RecordFitted s out after a → RecordFitted s out again b
-    → (a .refusal ≡ b .refusal) × (a .size ≡ b .size) × (after ≡ again)
-    × (a .refusal ≢ refusal.Knot → a .refusal ≢ refusal.NoRetiming → a .cycle ≡ b .cycle)
-fit-settled s out after again a b p q =
-    let same : a .refusal ≡ b .refusal = settled (a .refusal) (b .refusal) (p .refusal) (q .refusal) in (
-      same,
-      settled (a .size) (b .size) (p .size) (q .size ∙ ap (λ r. pick (fine r) (written (Rattle.fit.specs.Retimed.fittedForm (readForm s .form)) (length out) .size) 0) (sym same)),
-      settled after again (p .buffer) (q .buffer),
-      λ k n. cycle-settled _ _ _ _ _ _ (p .handed) (q .handed) same k n,
-    )
-
--- a record that the fit refuses leaves the buffer as it was
-pub fit-refused : (s out : List ℕ) → fine (fitRecord s (length out)) ≡ false → fitBuffer s out ≡ out
-unfolding fitBuffer
-fit-refused s out e = pick-false (fine (fitRecord s (length out))) _ out e
-
 -- first schedules, rotations and searches, whatever is asked and planned: all but the knot handed over
 module _ (asked : Form → Refusal) (planned : Form → Form) (turned : Form → ℕ) (s out : List ℕ) where
   pub schedule-settled : (after again : List ℕ) (a b : Scheduled) → RecordScheduled asked planned turned s out after a → RecordScheduled asked planned turned s out again b
@@ -152,6 +135,16 @@ module _ (asked : Form → Refusal) (planned : Form → Form) (turned : Form →
   -- a refusal leaves the buffer as it was
   pub schedule-refused : (after : List ℕ) (a : Scheduled) → RecordScheduled asked planned turned s out after a → fine (a .refusal) ≡ false → after ≡ out
   schedule-refused after a p e = p .buffer ∙ pick-false (fine (a .refusal)) _ out e
+
+-- fitting: the refusal, the size and the buffer are settled, and so is the cycle where none is handed over
+pub fit-settled : (s out after again : List ℕ) (a b : Scheduled) → RecordFitted s out after a → RecordFitted s out again b
+    → (a .refusal ≡ b .refusal) × (a .size ≡ b .size) × (a .rotations ≡ b .rotations) × (after ≡ again)
+    × (a .refusal ≢ refusal.Knot → a .refusal ≢ refusal.NoRetiming → a .cycle ≡ b .cycle)
+fit-settled s out = schedule-settled fitOf fittedForm unturned s out
+
+-- a record that the fit refuses leaves the buffer as it was
+pub fit-refused : (s out after : List ℕ) (a : Scheduled) → RecordFitted s out after a → fine (a .refusal) ≡ false → after ≡ out
+fit-refused s out = schedule-refused fitOf fittedForm unturned s out
 
 -- a run: refusal, steps and both buffers
 pub run-settled : (s : List ℕ) (k : ℕ) (starts values finish values₁ finish₁ values₂ finish₂ : List ℕ) (a b : Ran)

@@ -44,7 +44,7 @@ use Rattle.legal.specs.Systems.{knotted}
 use Rattle.list_rule.specs.Rule.{startNumber, listRule}
 use Rattle.list_rule.specs.Filling as filling
 use Rattle.list_rule.specs.Placed.{rule-places}
-use Rattle.turning.specs.Pairs.{withPair}
+use Rattle.plans.specs.Pairs.{withPair}
 use Rattle.turning.specs.Rotation.{firstForm, rotatedLength, rotated, tooLong}
 use Rattle.turning.specs.FirstLaws as firsts
 use Rattle.turning.specs.RotatedLaws as rotations

@@ -1,7 +1,7 @@
 -- Demand 3. What the judge accepts runs, step for step, to the plain loop's values; what it refuses gets stuck.
 -- Assumes nothing.
 use mathlib.Core.Path.{_≡_, refl, sym, ap, subst, _∙_}
-use mathlib.Core.Bool.{Bool, true, false}
+use mathlib.Core.Bool.{true}
 use mathlib.Core.Logic.{_≢_}
 use mathlib.Core.List.{List}
 use Prim.Native.Nat.{ℕ, suc, _+_, _*_, _≤_, _<_}
@@ -9,7 +9,7 @@ use lib.Dec.{eqb, ltb}
 use lib.ListN.{length, getD}
 use native.Mathlib.Omega.{arith}
 use borrow.Author.Tests.{ne-eqb, le-ltb}
-use Rattle.lists.specs.Pick.{pick-true, pick-false, both-ways}
+use Rattle.lists.specs.Pick.{pick-true, pick-false}
 use Rattle.answer.specs.Refused.{fine}
 use Rattle.answer.specs.declared.Refusal.the-variants.{None}
 use Rattle.form.specs.declared.Form.{Form}
@@ -17,6 +17,7 @@ use Rattle.form.specs.Ranges.{WellFormed}
 use Rattle.field.specs.Number.{Bytes}
 use Rattle.reader.specs.Reading.{readForm}
 use Rattle.record.specs.Read as reading
+use Rattle.record.specs.ReadFirst.{first-asked, neither-refused}
 use Rattle.legal.specs.Loop.{Loop, Pair, loopOf, graphOf, pairOf}
 use Rattle.legal.specs.Shape.{Sound, Starting, sound-form}
 use Rattle.legal.specs.Knots.{Free}
@@ -35,7 +36,7 @@ use Rattle.machine.specs.Judges as judges
 use Rattle.plain.specs.declared.Looped.{Looped}
 use Rattle.plain.specs.Answer.{RecordLooped}
 use Rattle.run.specs.declared.Ran.{Ran}
-use Rattle.run.specs.Running.{roomAsked, asked, ranOf, RecordRun}
+use Rattle.run.specs.Running.{roomAsked, runAsked, asked, ranOf, RecordRun}
 
 -- a well-formed form, any start values, any number of iterations, any buffers with room for them
 module _ (f : Form) (w : WellFormed f) (starts : List ℕ) (k : ℕ) (values finish : List ℕ)
@@ -72,7 +73,7 @@ module _ (s : List ℕ) (bytes : Bytes s) (k : ℕ) (starts values₀ finish₀ 
   begun : fine (readForm s .refusal) ≡ true → readForm s .form .header .length ≢ 0 → asked s k starts values₀ finish₀ ≡ None
   unfolding asked roomAsked
   begun e n =
-      pick-true (fine (readForm s .refusal)) _ _ e
+      first-asked s (readForm s) refl (λ f. runAsked f k starts values₀ finish₀) e
       ∙ pick-false (eqb (readForm s .form .header .length) 0) _ _ (ne-eqb _ _ n)
       ∙ pick-false (ltb (length starts) (15 * readForm s .form .header .nodes)) _ _ (le-ltb _ _ lent)
       ∙ pick-false (ltb (length values₀) (k * readForm s .form .header .nodes)) _ _ (le-ltb _ _ room)
@@ -96,11 +97,9 @@ module _ (s : List ℕ) (bytes : Bytes s) (k : ℕ) (starts values₀ finish₀ 
     -- a record that the judge accepts was read, and its form is accepted
     accepts : j .refusal ≡ None → (fine (readForm s .refusal) ≡ true) × (judgeOf (readForm s .form) ≡ None)
     unfolding judgeRecord fine
-    accepts q = go (fine (readForm s .refusal)) refl
-      where
-        go : (b : Bool) → fine (readForm s .refusal) ≡ b → (fine (readForm s .refusal) ≡ true) × (judgeOf (readForm s .form) ≡ None)
-        go true e = (e, sym (pick-true (fine (readForm s .refusal)) _ _ e) ∙ sym (judged .refusal) ∙ q)
-        go false e = both-ways (sym (ap fine (sym q ∙ judged .refusal ∙ pick-false (fine (readForm s .refusal)) _ _ e))) e
+    accepts q =
+        let t = neither-refused s judgeOf (ap fine (sym (judged .refusal) ∙ q)) in
+        (t .0, sym (first-asked s (readForm s) refl judgeOf (t .0)) ∙ sym (judged .refusal) ∙ q)
 
     -- accepted: the run is not refused, its steps are (K + D) * L
     pub accepted-record-runs : j .refusal ≡ None → (r .refusal ≡ None) × (r .steps ≡ (k + depth (loopOf (readForm s .form)) (pairOf (readForm s .form))) * readForm s .form .header .length)
@@ -132,7 +131,7 @@ module _ (s : List ℕ) (bytes : Bytes s) (k : ℕ) (starts values₀ finish₀ 
     refused-record-stuck e n no-judge d none =
         let f : Form = readForm s .form in
         refused-stuck f (reading.read-well-formed s bytes e) starts k values₀ finish₀ room room′ n
-        (λ q. no-judge (judged .refusal ∙ pick-true (fine (readForm s .refusal)) _ _ e ∙ q)) d (sym (refusal-is e n) ∙ none)
+        (λ q. no-judge (judged .refusal ∙ first-asked s (readForm s) refl judgeOf e ∙ q)) d (sym (refusal-is e n) ∙ none)
 
 -- ---- how a run ends
 

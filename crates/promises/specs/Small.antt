@@ -31,12 +31,11 @@ use Rattle.reach.specs.Weight.{tight, spread, sweep, reach, reachedFrom, weight
 use Rattle.list_rule.specs.Order.{insert, orderOf}
 use Rattle.list_rule.specs.Rule.{uses, inUse, free, blocks, ready, place, fillStep, allPlaced, fillFrom, listRule, lengthOf}
 use Rattle.list_rule.specs.FirstLegal.{firstStarts}
-use Rattle.list_rule.specs.Tables.{numbersOf, startsOf}
 use Rattle.turning.specs.Turned.{gainedBy, droppedBy}
 use Rattle.turning.specs.TurnedLegal.{turnedStarts}
-use Rattle.turning.specs.Pairs.{withPair}
+use Rattle.plans.specs.Pairs.{withPair}
 use Rattle.turning.specs.Rotation.{firstForm, rotatedStarts, rotatedLength, rotated, tooLong}
-use Rattle.rotation.specs.Scheduling.{firstAsked, turns, rotateAsked}
+use Rattle.rotation.specs.Rotating.{firstAsked, turns, rotateAsked}
 use Rattle.turning.specs.Worked.{smallForm, pairIn}
 use Rattle.search.specs.Search.{halved, stops, shorter, turn, begun, searchFrom, searched}
 use Rattle.search.specs.Searching.{searchAsked, searchForm, searchTurns}
@@ -118,5 +117,5 @@ worked =
     ∷ []
 
 pub small-loop : map (λ (c : Case). answerTo (c .asked)) worked ≡ map (λ (c : Case). c .given) worked
-unfolding smallWith startTable told answer limitsIn answerTo worked smallForm pairIn emptyForm pick span count fold top firstFrom fine hold graphOf loopOf pairOf busy body.held sumOf knots knotted lateness limits paces breaks brokenEdge over overClass overStep unitsOf rulesOf judgeOf asks raise raiseAll raises everyEdge round settleFrom settledOf topOf turnedAt filled retimings withRetiming fittedForm fitOf latencyPart nodesOn unitsPart unitsParts cyclePart floorLength partOf floorRefusal tight spread sweep reach reachedFrom weight insert orderOf uses inUse free blocks ready place fillStep allPlaced fillFrom listRule lengthOf firstStarts numbersOf startsOf timesOf withPair firstForm gainedBy droppedBy turnedStarts rotatedStarts rotatedLength rotated tooLong firstAsked turns rotateAsked halved stops shorter turn begun searchFrom searched searchAsked plus minus times difference applied edgesInto operandBy computedBy depth issues late lateEdge holds heldNow issue visit stepOf runSteps ran cleared runOf
+unfolding smallWith startTable told answer limitsIn answerTo worked smallForm pairIn emptyForm pick span count fold top firstFrom fine hold graphOf loopOf pairOf busy body.held sumOf knots knotted lateness limits paces breaks brokenEdge over overClass overStep unitsOf rulesOf judgeOf asks raise raiseAll raises everyEdge round settleFrom settledOf topOf turnedAt filled retimings withRetiming fittedForm fitOf latencyPart nodesOn unitsPart unitsParts cyclePart floorLength partOf floorRefusal tight spread sweep reach reachedFrom weight insert orderOf uses inUse free blocks ready place fillStep allPlaced fillFrom listRule lengthOf firstStarts timesOf withPair firstForm gainedBy droppedBy turnedStarts rotatedStarts rotatedLength rotated tooLong firstAsked turns rotateAsked halved stops shorter turn begun searchFrom searched searchAsked plus minus times difference applied edgesInto operandBy computedBy depth issues late lateEdge holds heldNow issue visit stepOf runSteps ran cleared runOf
 small-loop = refl

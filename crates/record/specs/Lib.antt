@@ -14,6 +14,7 @@ pub mod Least
 pub mod Prefix
 pub mod Read
 pub mod ReadHeld
+pub mod ReadFirst
 pub mod Walks
 pub mod LaidHeader
 pub mod Agree

@@ -1,3 +1,2 @@
-pub mod Entries
+pub mod FirstPlans
 pub mod Rotates
-pub mod Steps

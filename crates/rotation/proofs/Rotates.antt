@@ -27,11 +27,13 @@ use Rattle.tables.specs.declared.Timetable.{Timetable}
 use Rattle.tables.specs.Times.{timesOf}
 use Rattle.judge.specs.Judgement.{Judgement}
 use Rattle.judge.specs.declared.Judged as verdict
-use Rattle.turning.specs.Pairs.{withPair, withTimes}
+use Rattle.plans.specs.Pairs.{withPair, withTimes}
+use Rattle.plans.specs.Tabled.{Tabled}
+use Rattle.plans.specs.Scheduling.{Planned, unturned}
 use Rattle.turning.specs.Rotation.{rotatedLength, rotated, tooLong, turnedForm, rotatedOr}
-use Rattle.turning.specs.Lending.{Tabled, Turnable}
+use Rattle.turning.specs.Lending.{Turnable}
 use Rattle.turning.specs.RotatedLaws.{rotated-same, rotated-written}
-use Rattle.rotation.specs.Scheduling.{Planned, unturned, turns, rotateAsked, rotatedBy}
+use Rattle.rotation.specs.Rotating.{turns, rotateAsked, rotatedBy}
 
 -- what steps can be rotated
 turns-told : (z l : ℕ) → turns z l ≡ true → (1 ≤ z) × (z < l)

@@ -1,1 +1,1 @@
-pub mod Scheduling
+pub mod Rotating

@@ -10,11 +10,11 @@ use Rattle.answer.specs.declared.Details.{Details}
 use Rattle.answer.specs.declared.Cycle.{Cycle}
 use Rattle.judge.specs.declared.Judged.{Judged}
 use Rattle.judge.specs.Judgement.{RecordJudgement}
-use Rattle.fit.specs.declared.Fitted.{Fitted}
 use Rattle.fit.specs.Fitting.{RecordFitted}
-use Rattle.rotation.specs.declared.Scheduled.{Scheduled}
+use Rattle.plans.specs.declared.Scheduled.{Scheduled}
 use Rattle.turning.specs.Rotation.{firstForm}
-use Rattle.rotation.specs.Scheduling.{RecordScheduled, firstAsked, unturned, rotateAsked, rotatedBy}
+use Rattle.plans.specs.Scheduling.{RecordScheduled, unturned}
+use Rattle.rotation.specs.Rotating.{firstAsked, rotateAsked, rotatedBy}
 use Rattle.search.specs.Searching.{searchAsked, searchForm, searchTurns}
 use Rattle.run.specs.declared.Ran.{Ran}
 use Rattle.run.specs.Running.{RecordRun}
@@ -37,7 +37,7 @@ JudgeAnswered s = Answered Judged (RecordJudgement s) (λ j. j .refusal) (λ j. 
 
 -- a record fitted: its size
 abbrev pub FitAnswered : List ℕ → List ℕ → List ℕ → ℕ → List ℕ → Type 0
-FitAnswered s out after = Answered Fitted (RecordFitted s out after) (λ f. f .refusal) (λ f. toldOf (f .refusal) (details (f .size) 0 0)) (λ f. f .cycle)
+FitAnswered s out after = Answered Scheduled (RecordFitted s out after) (λ f. f .refusal) (λ f. toldOf (f .refusal) (details (f .size) 0 0)) (λ f. f .cycle)
 
 -- a record with its first schedule: its size
 abbrev pub FirstAnswered : List ℕ → List ℕ → List ℕ → ℕ → List ℕ → Type 0

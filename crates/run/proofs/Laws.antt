@@ -2,16 +2,14 @@
 -- Assumes nothing.
 use mathlib.Core.Path.{_≡_, refl}
 use mathlib.Core.List.{List}
-use mathlib.Core.Bool.{true, false}
 use mathlib.Core.Logic.{_≢_}
-use Prim.Native.Nat.{ℕ, _+_, _-_, _*_, _≤_, _<_}
+use Prim.Native.Nat.{ℕ, _+_, _*_, _≤_, _<_}
 use native.Mathlib.Omega.{arith}
 use native.Mathlib.Numerals.{add-one}
 use native.Mathlib.Nat.{mul-le-mul}
 use borrow.Author.Needs.{needs}
 use borrow.Author.Tests.{eq-eqb, ne-eqb, le-leb, lt-leb, le-ltb, lt-ltb}
-use lib.Dec.{ltb}
-use lib.ListN.{getD, set}
+use lib.ListN.{set, take}
 use Rattle.lists.specs.Sums.{top-under}
 use Rattle.form.specs.declared.Form.{Form}
 use Rattle.form.specs.Places.{retimingOf}
@@ -19,7 +17,8 @@ use Rattle.form.specs.Ranges.{WellFormed}
 use Rattle.legal.specs.Loop.{graphOf, loopOf, pairOf}
 use Rattle.tables.specs.Most.{mostOf}
 use Rattle.machine.specs.Run.{depth, cleared}
-use Rattle.run.specs.Order.{stepAt}
+use Rattle.run.specs.Order.{stepAt, orderFrom}
+use Rattle.run.specs.Repeat.{order}
 
 pub ruleset tests = (needs, eq-eqb, ne-eqb, le-leb, lt-leb, le-ltb, lt-ltb)
 
@@ -53,7 +52,11 @@ starts-in f w some v l =
 pub start-few : (f : Form) → WellFormed f → f .header .length ≢ 0 → (v : ℕ) → v < f .header .nodes → stepAt (f .start) v ≤ 512
 start-few f w some v l = omega (arith, starts-in f w some v l .1, w .length)
 
--- ---- the depth
+-- ---- the order and the depth
+
+pub order-whole : (f : Form) (table : List ℕ) → take (f .header .nodes) table ≡ orderFrom (stepAt (f .start)) (f .header .nodes) 1 (f .header .length) → take (f .header .nodes) table ≡ order (loopOf f) (pairOf f)
+unfolding loopOf graphOf pairOf
+order-whole f table e = e
 
 pub depth-whole : (f : Form) (d : ℕ) → WellFormed f → f .header .length ≢ 0 → d ≡ mostOf (f .retiming) (f .header .nodes) → (d ≡ depth (loopOf f) (pairOf f)) × (d ≤ 63)
 unfolding mostOf depth loopOf graphOf pairOf

@@ -30,7 +30,7 @@ use Rattle.run.specs.Order.{Rising, order-rising, order-length}
 use Rattle.run.specs.Repeat.{order, stepIn, visitIn, repeated, visits-stay}
 use Rattle.issue.specs.Units.{Boarded, Point, point-later}
 use Rattle.issue.specs.Issue.{machineOf, IssueTold, Outcome, SameSizes}
-use Rattle.run.specs.Going.{Before, Went}
+use Rattle.run.specs.Going.{Before}
 use Rattle.run.proofs.Laws.{starts-in}
 
 -- a well-formed form has up to 4 classes of up to 8 units
@@ -45,6 +45,12 @@ issue-none g p starts k t v m =
     pick-ind (λ (r : Machine). fine (r .refusal) ≡ true → r .refusal ≡ None) _ _ _
     (λ e h. absurd (false≢true h))
     (λ e. pick-ind (λ (r : Machine). fine (r .refusal) ≡ true → r .refusal ≡ None) _ _ _ (λ q h. refl) (λ q h. absurd (false≢true h)))
+
+-- what repetition j makes of the buffers, and what holds before the next if nothing is refused
+pub record Went (f : Form) (k : ℕ) (starts : List ℕ) (j : ℕ) (values₀ finish₀ values finish free : List ℕ) (why : Refusal) : Type 0 where
+  pub sized : SameSizes values₀ finish₀ values finish free
+  pub is-repeated : machineOf values finish why ≡ repeated (loopOf f) (pairOf f) starts k (machineOf values₀ finish₀ None) j
+  pub next : fine why ≡ true → (why ≡ None) × Before f k starts (j + 1) values finish free
 
 -- ---- a visit that can issue
 

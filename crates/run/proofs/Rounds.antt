@@ -18,7 +18,8 @@ use Rattle.legal.specs.Loop.{loopOf, pairOf}
 use Rattle.machine.specs.Run.{Machine}
 use Rattle.run.specs.Repeat.{repeated, repetitions-stay}
 use Rattle.issue.specs.Issue.{machineOf}
-use Rattle.run.specs.Going.{Before, Went, Repetitions}
+use Rattle.run.specs.Going.{Before, Repetitions}
+use Rattle.run.proofs.Midway.{Went}
 
 module _ (f : Form) (k deep : ℕ) (starts values₀ finish₀ : List ℕ) where
   -- what so many repetitions from j on make of the buffers

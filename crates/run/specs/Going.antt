@@ -1,14 +1,12 @@
--- What a run needs before it goes, and what holds before each of its repetitions.
+-- What a run needs before it goes, what holds before each of its repetitions, and what all of them make of the buffers.
 -- Assumes nothing.
 use mathlib.Core.Path.{_≡_}
-use mathlib.Core.Bool.{true}
 use mathlib.Core.Logic.{_≢_}
 use mathlib.Core.List.{List}
 use Prim.Native.Nat.{ℕ, _+_, _*_, _≤_}
 use lib.ListN.{length, getD, take}
 use Rattle.lists.specs.Span.{span}
 use Rattle.lists.specs.Fold.{fold}
-use Rattle.answer.specs.Refused.{fine}
 use Rattle.answer.specs.declared.Refusal.{Refusal}
 use Rattle.answer.specs.declared.Refusal.the-variants.{None}
 use Rattle.form.specs.declared.Form.{Form}
@@ -18,7 +16,7 @@ use Rattle.machine.specs.Run.{depth}
 use Rattle.links.specs.Chains.{Chains}
 use Rattle.run.specs.Repeat.{order, repeated}
 use Rattle.issue.specs.Units.{Point}
-use Rattle.issue.specs.Issue.{machineOf, SameSizes}
+use Rattle.issue.specs.Issue.{machineOf}
 
 -- a form with a schedule, its depth, its order and its links, and a start table that is long enough
 pub record Equipped (f : Form) (deep : ℕ) (table first next starts : List ℕ) : Type 0 where
@@ -35,12 +33,6 @@ pub record Before (f : Form) (k : ℕ) (starts : List ℕ) (j : ℕ) (values fin
   pub for-finish : k * f .header .nodes ≤ length finish
   pub all-units : length free ≡ 32
   pub point : Point (loopOf f) (pairOf f) starts k ((j * f .header .length + 1) * f .header .nodes) finish free
-
--- what repetition j makes of the buffers, and what holds before the next if nothing is refused
-pub record Went (f : Form) (k : ℕ) (starts : List ℕ) (j : ℕ) (values₀ finish₀ values finish free : List ℕ) (why : Refusal) : Type 0 where
-  pub sized : SameSizes values₀ finish₀ values finish free
-  pub is-repeated : machineOf values finish why ≡ repeated (loopOf f) (pairOf f) starts k (machineOf values₀ finish₀ None) j
-  pub next : fine why ≡ true → (why ≡ None) × Before f k starts (j + 1) values finish free
 
 -- what all repetitions make of them
 pub record Repetitions (f : Form) (k deep : ℕ) (starts values₀ finish₀ values finish : List ℕ) (why : Refusal) : Type 0 where

@@ -13,6 +13,7 @@ use Rattle.answer.specs.declared.Refusal.the-variants.{None, Bare, Room}
 use Rattle.form.specs.declared.Form.{Form}
 use Rattle.form.specs.Ranges.{WellFormed}
 use Rattle.reader.specs.Reading.{readForm}
+use Rattle.record.specs.ReadFirst.{readFirst}
 use Rattle.legal.specs.Loop.{loopOf, pairOf}
 use Rattle.machine.specs.Run.{Machine, runSteps, runOf}
 use Rattle.run.specs.declared.Ran.{Ran}
@@ -31,7 +32,7 @@ runAsked f k starts values finish = roomAsked (f .header .length) (f .header .no
 
 -- what is refused before a run begins
 unfoldable pub asked : List ℕ → ℕ → List ℕ → List ℕ → List ℕ → Refusal
-asked s k starts values finish = pick (fine (readForm s .refusal)) (runAsked (readForm s .form) k starts values finish) (readForm s .refusal)
+asked s k starts values finish = readFirst s (λ f. runAsked f k starts values finish)
 
 -- the machine's run of a form
 abbrev pub ranOf : Form → ℕ → List ℕ → List ℕ → List ℕ → Machine

@@ -17,11 +17,12 @@ use Rattle.legal.specs.Loop.{loopOf}
 use Rattle.legal.specs.Systems.{knotted}
 use Rattle.tables.specs.declared.Timetable.{Timetable}
 use Rattle.tables.specs.Times.{timesOf}
-use Rattle.turning.specs.Pairs.{withPair, withTimes, SameButPair, same-loop}
+use Rattle.plans.specs.Pairs.{withPair, withTimes, SameButPair, same-loop}
 use Rattle.turning.specs.Rotation.{firstForm, rotatedLength, rotated, tooLong, turnedForm, rotatedOr}
 use Rattle.turning.specs.FirstLaws.{first-same, first-well-formed}
 use Rattle.turning.specs.RotatedLaws.{rotated-next}
-use Rattle.turning.specs.Lending.{Tabled, Unknotted, Turnable, lent-next}
+use Rattle.plans.specs.Tabled.{Tabled}
+use Rattle.turning.specs.Lending.{Unknotted, Turnable, lent-next}
 use Rattle.search.specs.Search.{Search, halved, stops, shorter, turn, begun, searchFrom, searched}
 use Rattle.search.specs.Searching.{Answers}
 use Rattle.search.specs.Halved.{halved-below, halved-small}

@@ -3,14 +3,15 @@ ghost use mathlib.Core.Path.{_≡_};
 ghost use Prim.Native.Nat.{_≤_};
 ghost use Rattle.form.specs.declared.Form.{Form};
 ghost use Rattle.tables.specs.Times.{timesOf};
-ghost use Rattle.turning.specs.Lending.{Tabled, Unknotted};
-ghost use Rattle.rotation.specs.Scheduling.{Planned, RecordScheduled};
+ghost use Rattle.plans.specs.Tabled.{Tabled};
+ghost use Rattle.plans.specs.Scheduling.{Planned, RecordScheduled};
+ghost use Rattle.turning.specs.Lending.{Unknotted};
 ghost use Rattle.search.specs.Search.{halved, shorter};
 ghost use Rattle.search.specs.Searching.{searchAsked, searchForm, searchTurns, Answers};
 use answer::Cycle;
 use answer::Refusal;
-use rotation::Plan;
-use rotation::Scheduled;
+use plans::Plan;
+use plans::Scheduled;
 use tables::Timetable;
 
 // The timetable with the shortest pair that a search of a form met, and the rotations completed.
@@ -143,5 +144,5 @@ pub fn search(record: &[u8], count: u16, size: u16, out: &mut [u8]) -> Scheduled
         count,
         size,
     );
-    rotation::write_plan(read.form, plan, out)
+    plans::write_plan(read.form, plan, out)
 }

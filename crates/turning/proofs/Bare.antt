@@ -14,7 +14,7 @@ use Rattle.tables.specs.Times.{SoundTimes}
 use Rattle.tables.specs.Lent.{Lent, lent-ends, lent-sound}
 use Rattle.list_rule.specs.Rule.{startNumber, listRule, lengthOf}
 use Rattle.list_rule.specs.Tables.{EndsInBody}
-use Rattle.turning.specs.Pairs.{timesWith}
+use Rattle.plans.specs.Pairs.{timesWith}
 use Rattle.turning.specs.Lending.{EndSoon, Placeable}
 
 -- ---- placing

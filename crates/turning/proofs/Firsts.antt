@@ -13,7 +13,7 @@ use Rattle.tables.specs.declared.Timetable.{Timetable}
 use Rattle.tables.specs.Times.{timesOf}
 use Rattle.list_rule.specs.Rule.{startNumber, listRule, lengthOf}
 use Rattle.list_rule.specs.FirstLegal.{firstStarts}
-use Rattle.turning.specs.Pairs.{timesWith, pair-times}
+use Rattle.plans.specs.Pairs.{timesWith, pair-times}
 use Rattle.turning.specs.Rotation.{firstForm}
 use Rattle.turning.specs.FirstLaws.{first-table, first-soon}
 use Rattle.turning.specs.Lending.{Unknotted}

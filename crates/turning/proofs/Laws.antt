@@ -15,7 +15,7 @@ use Rattle.lists.specs.Sums.{top-none, top-last}
 use Rattle.legal.specs.Loop.{Loop, latency}
 use Rattle.list_rule.specs.Rule.{startNumber, lengthOf}
 use Rattle.turning.specs.Turned.{droppedBy, dropped-at}
-use Rattle.turning.specs.Pairs.{StartTable}
+use Rattle.plans.specs.Pairs.{StartTable}
 
 -- ---- the length
 

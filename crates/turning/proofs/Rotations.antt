@@ -28,7 +28,7 @@ use Rattle.list_rule.specs.Ends.{length-ends}
 use Rattle.list_rule.specs.Filling.{staffed-form}
 use Rattle.turning.specs.Turned.{gainedBy, droppedBy, dropped-at}
 use Rattle.turning.specs.TurnedLegal.{turnedStarts, turned-filled, turned-length, turned-settles}
-use Rattle.turning.specs.Pairs.{withPair, timesWith, StartTable, step-at, pair-loop, pair-times}
+use Rattle.plans.specs.Pairs.{withPair, timesWith, StartTable, step-at, pair-loop, pair-times}
 use Rattle.turning.specs.Rotation.{rotatedStarts, rotatedLength, rotated, tooLong, turnedForm, rotatedOr}
 use Rattle.turning.specs.SameRule.{nodes-same}
 use Rattle.turning.specs.RotatedLaws.{tabled, rotated-table}

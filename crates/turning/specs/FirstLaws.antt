@@ -33,7 +33,7 @@ use Rattle.list_rule.specs.Ends.{length-ends}
 use Rattle.list_rule.specs.Filling.{Filled, staffed-form}
 use Rattle.list_rule.specs.FirstLegal.{unretimed, firstStarts, firstPair, first-filled, first-length, first-legal}
 use Rattle.turning.specs.TurnedLegal.{rule-past}
-use Rattle.turning.specs.Pairs.{asBodyStep, withPair, SameButPair, StartTable, step-at, pair-back}
+use Rattle.plans.specs.Pairs.{asBodyStep, withPair, SameButPair, StartTable, step-at, pair-back}
 use Rattle.turning.specs.Rotation.{firstForm}
 
 -- the table of first starts has its places, and 0 past the nodes

@@ -14,7 +14,8 @@ use Rattle.legal.specs.Shape.{Sound}
 use Rattle.tables.specs.declared.Timetable.{Timetable}
 use Rattle.tables.specs.Edges.{Told}
 use Rattle.tables.specs.Times.{timesOf, Timed, timed-form}
-use Rattle.tables.specs.Lent.{Lent, lent-form}
+use Rattle.tables.specs.Lent.{Lent}
+use Rattle.plans.specs.Tabled.{Tabled}
 use Rattle.list_rule.specs.Rule.{startNumber, listRule}
 
 -- nodes of latency 1 to 8 that start by step 1023
@@ -31,12 +32,7 @@ pub record Placeable (g : Loop) (p : Pair) (edges : ℕ) (from to delays : List 
   pub timed : Timed g p t
   pub soon : (v : ℕ) → v < t .nodes → startNumber (listRule g (p .retiming) (t .start)) v ≤ 1023
 
--- the tables are those of a well-formed form, place by place
-pub record Tabled (f : Form) (edges : ℕ) (from to delays : List ℕ) (t : Timetable) : Type 0 where
-  pub lent : Lent f edges from to delays t
-  pub is : t ≡ timesOf f
-
--- of one without a knot
+-- the tables are those of a form without a knot
 pub record Unknotted (f : Form) (edges : ℕ) (from to delays : List ℕ) (t : Timetable) : Type 0 where
   pub tabled : Tabled f edges from to delays t
   pub free : knotted (loopOf f) ≡ false
@@ -47,10 +43,6 @@ pub record Turnable (f : Form) (edges : ℕ) (from to delays : List ℕ) (t : Ti
   pub legal : Legal (loopOf f) (pairOf f)
   pub some : 1 ≤ steps
   pub below : steps < f .header .length
-
--- a form's own tables are
-pub tabled-form : (f : Form) (t : Timetable) → WellFormed f → t ≡ timesOf f → Tabled f (f .header .edges) (f .from) (f .to) (f .delays) t
-tabled-form f t w is = record { lent = lent-form f t w is; is = is }
 
 -- a form that differs from a lent one in its pair alone is lent with it
 pub lent-next : (f g : Form) (edges : ℕ) (from to delays : List ℕ) (t u : Timetable) → Lent f edges from to delays t → loopOf g ≡ loopOf f → WellFormed g → u ≡ timesOf g → Lent g edges from to delays u

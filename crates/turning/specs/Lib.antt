@@ -1,4 +1,3 @@
-pub mod Pairs
 pub mod Turned
 pub mod TurnedLegal
 pub mod Rotation

@@ -37,7 +37,7 @@ use Rattle.list_rule.specs.Ends.{length-ends}
 use Rattle.list_rule.specs.Filling.{staffed-form}
 use Rattle.turning.specs.Turned.{gainedBy, droppedBy, dropped-at}
 use Rattle.turning.specs.TurnedLegal.{rule-past, turnedStarts, StartsTabled, turned-long, turned-filled, turned-length, turned-settles, turned-bodied, turned-unit-rule}
-use Rattle.turning.specs.Pairs.{asBodyStep, withPair, SameButPair, StartTable, step-at, pair-back, pair-next}
+use Rattle.plans.specs.Pairs.{asBodyStep, withPair, SameButPair, StartTable, step-at, pair-back, pair-next}
 use Rattle.turning.specs.Rotation.{rotatedStarts, rotatedLength, rotated, tooLong}
 
 -- a form's timetable holds the starts of its pair

@@ -14,7 +14,7 @@ use Rattle.list_rule.specs.Rule.{startNumber, lengthOf}
 use Rattle.list_rule.specs.FirstLegal.{firstStarts}
 use Rattle.turning.specs.Turned.{gainedBy}
 use Rattle.turning.specs.TurnedLegal.{turnedStarts}
-use Rattle.turning.specs.Pairs.{withPair}
+use Rattle.plans.specs.Pairs.{withPair}
 
 -- the list rule with all retimings 0
 unfoldable pub firstForm : Form → Form

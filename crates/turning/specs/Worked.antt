@@ -22,10 +22,9 @@ use Rattle.reach.specs.Weight.{tight, spread, sweep, reach, reachedFrom, weight
 use Rattle.list_rule.specs.Order.{insert, orderOf}
 use Rattle.list_rule.specs.Rule.{uses, inUse, free, blocks, ready, place, fillStep, allPlaced, fillFrom, listRule, lengthOf}
 use Rattle.list_rule.specs.FirstLegal.{firstStarts}
-use Rattle.list_rule.specs.Tables.{numbersOf, startsOf}
 use Rattle.turning.specs.Turned.{gainedBy, droppedBy}
 use Rattle.turning.specs.TurnedLegal.{turnedStarts}
-use Rattle.turning.specs.Pairs.{withPair}
+use Rattle.plans.specs.Pairs.{withPair}
 use Rattle.turning.specs.Rotation.{firstForm, rotatedStarts, rotatedLength, rotated, tooLong}
 
 -- class 0 of latency 1, class 1 of latency 2; a multiplication, then two additions, round with two delays
@@ -38,11 +37,11 @@ smallForm =
 
 -- length, starts, retimings
 unfoldable pub pairIn : Form → List ℕ
-pairIn f = f .header .length ∷ (take 3 (startsOf f) ++ take 3 (f .retiming))
+pairIn f = f .header .length ∷ (take 3 (timesOf f .start) ++ take 3 (f .retiming))
 
 pub worked : (pairIn (firstForm smallForm) ≡ 4 ∷ 1 ∷ 3 ∷ 4 ∷ 0 ∷ 0 ∷ 0 ∷ [])
     × (pairIn (rotated (firstForm smallForm) 1) ≡ 3 ∷ 1 ∷ 2 ∷ 3 ∷ 1 ∷ 0 ∷ 0 ∷ [])
     × (pairIn (rotated (rotated (firstForm smallForm) 1) 1) ≡ 4 ∷ 3 ∷ 1 ∷ 2 ∷ 1 ∷ 0 ∷ 0 ∷ [])
     × (pairIn (rotated (rotated (firstForm smallForm) 1) 2) ≡ 3 ∷ 2 ∷ 2 ∷ 1 ∷ 2 ∷ 1 ∷ 0 ∷ [])
-unfolding smallForm pairIn emptyForm pick span count fold top hold graphOf loopOf pairOf lateness limits asks raise raiseAll raises everyEdge round settleFrom settledOf topOf turnedAt filled retimings tight spread sweep reach reachedFrom weight insert orderOf uses inUse free blocks ready place fillStep allPlaced fillFrom listRule lengthOf firstStarts numbersOf startsOf timesOf withPair firstForm gainedBy droppedBy turnedStarts rotatedStarts rotatedLength rotated tooLong
+unfolding smallForm pairIn emptyForm pick span count fold top hold graphOf loopOf pairOf lateness limits asks raise raiseAll raises everyEdge round settleFrom settledOf topOf turnedAt filled retimings tight spread sweep reach reachedFrom weight insert orderOf uses inUse free blocks ready place fillStep allPlaced fillFrom listRule lengthOf firstStarts timesOf withPair firstForm gainedBy droppedBy turnedStarts rotatedStarts rotatedLength rotated tooLong
 worked = (refl, refl, refl, refl)

@@ -11,7 +11,7 @@ ghost use Rattle.tables.specs.Edges.{Ends};
 ghost use Rattle.tables.specs.Times.{SoundTimes, timesOf};
 ghost use Rattle.list_rule.specs.Rule.{listRule, lengthOf};
 ghost use Rattle.list_rule.specs.Tables.{EndsInBody};
-ghost use Rattle.turning.specs.Pairs.{timesWith};
+ghost use Rattle.plans.specs.Pairs.{timesWith};
 ghost use Rattle.turning.specs.Rotation.{firstForm, turnedForm, rotatedOr};
 ghost use Rattle.turning.specs.Lending.{EndSoon, Placeable, Unknotted, Turnable};
 use tables::Timetable;

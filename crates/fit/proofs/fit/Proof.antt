@@ -1,73 +1,66 @@
--- `fit::fit` meets its contract: the reader's refusal, the plan's, else what is written with the retiming that fits.
+-- `fit::fit` meets its contract: the reader's refusal, else what becomes of the plan.
 -- Assumes nothing.
-use mathlib.Core.Path.{sym, subst, _∙_}
+use mathlib.Core.Path.{sym, _∙_}
 use native.Mathlib.Omega.{arith}
-use borrow.Author.Needs.{needs}
 use borrow.Author.Tests.{not-true, not-false}
+use borrow.Author.Needs.{needs}
 use Rattle.record.specs.Read.{read-good}
+use Rattle.record.specs.ReadFirst.{well-read}
 use Rattle.tables.specs.Lent.{lent-form}
-use Rattle.fit.specs.declared.Fitted.{Fitted}
-use Rattle.fit.specs.Fitting.{RecordFitted}
-use Rattle.fit.specs.Planned.{fittedAnswer}
-use Rattle.fit.proofs.Plans.{fit-unread, fit-refused, fit-taken, fit-answered}
+use Rattle.plans.specs.Tabled.{tabled-form}
+use Rattle.plans.specs.Kept.{read-kept}
+use Rattle.plans.specs.Scheduling.{unturned}
+use Rattle.plans.proofs.Entries.{entry-unread, plan-taken, entry-planned}
+use Rattle.fit.specs.Retimed.{fittedForm}
+use Rattle.fit.specs.Fitting.{fitOf}
+use Rattle.fit.proofs.Plans.{fit-writes}
 use Rattle.fit.proofs.fit.Statement.{statement}
 use Rattle.fit.proofs.fit.Tie as tie
 
 returns : tie.Need-returns
-returns c =
-    let r = c .before .before .before .before in
-    let a = r .before .before .before .args in
-    subst (λ (x : Fitted). RecordFitted (a .«record» .now) (a .out .now) (a .out .now) x) (sym (c .unfitted .ensures))
-    (fit-unread _ _ _ (r .read .ensures) (sym (c .before .before .before .is-fine .ensures) ∙ not-true _ (c .before .before .if1 .taken)) _ (c .before .none .ensures))
+returns c = entry-unread _ _ _ _ _ _ (c .before .before .before .read .ensures) (sym (c .before .before .is-fine .ensures) ∙ not-true _ (c .before .if1 .taken)) _ (c .none .ensures)
 
 times-of-requires : tie.Need-times-of-requires
 times-of-requires c κs =
-    let r = c .before .before .before in
+    let i = c .before in
+    let r = i .before .before in
     let a = r .before .before .before .args in
-    read-good (a .«record» .now) _ (r .read .ensures) (λ i. omega (arith, r .before .before .shared-slice-known .given i)) (sym (c .before .before .is-fine .ensures) ∙ not-false _ (c .before .if1 .left))
+    read-good (a .«record» .now) _ (r .read .ensures) (λ i. omega (arith, r .before .before .shared-slice-known .given i))
+    (sym (i .before .is-fine .ensures) ∙ not-false _ (i .if1 .left))
 
 plan-tables-requires : tie.Need-plan-tables-requires
 plan-tables-requires c κs =
-    let r = c .before .before .before .before .before .before .before .before in
-    let a = r .before .before .before .args in (
-      r .read .result .form,
-      lent-form _ _
-          (read-good (a .«record» .now) _ (r .read .ensures) (λ i. omega (arith, r .before .before .shared-slice-known .given i)) (sym (c .before .before .before .before .before .before .before .is-fine .ensures) ∙ not-false _ (c .before .before .before .before .before .before .if1 .left)))
-          (c .before .before .before .before .times-of .ensures),
-    )
+    let t = c .before .before .before .before in
+    let i = t .before .before in
+    let r = i .before .before in
+    let a = r .before .before .before .args in
+    let w = read-good (a .«record» .now) _ (r .read .ensures) (λ i. omega (arith, r .before .before .shared-slice-known .given i)) (sym (i .before .is-fine .ensures) ∙ not-false _ (i .if1 .left)) in
+    (r .read .result .form, lent-form _ _ w (t .times-of .ensures))
+
+write-plan-requires : tie.Need-write-plan-requires
+write-plan-requires c κs =
+    let p = c .before .before in
+    let t = p .before .before .before .before .before in
+    let i = t .before .before in
+    let r = i .before .before in
+    let a = r .before .before .before .args in
+    let good = sym (i .before .is-fine .ensures) ∙ not-false _ (i .if1 .left) in
+    let known = well-read (a .«record» .now) _ (r .read .ensures) (λ i. omega (arith, r .before .before .shared-slice-known .given i)) good in
+    plan-taken fitOf fittedForm unturned (a .«record» .now) (a .out .now) _ (r .read .ensures) known fit-writes _
+    (p .plan-tables .ensures _ (tabled-form _ _ (known .good) (t .times-of .ensures)) (read-kept (a .«record» .now) _ (r .read .ensures) (λ i. omega (arith, r .before .before .shared-slice-known .given i)) good))
 
 returns-2 : tie.Need-returns-2
 returns-2 c =
-    let r = c .before .before .before .before .before .before .before .before .before .before .before .before .before in
+    let w = c .before .before in
+    let p = w .before .before .before in
+    let t = p .before .before .before .before .before in
+    let i = t .before .before in
+    let r = i .before .before in
     let a = r .before .before .before .args in
-    let good = sym (c .before .before .before .before .before .before .before .before .before .before .before .before .is-fine .ensures) ∙ not-false _ (c .before .before .before .before .before .before .before .before .before .before .before .if1 .left) in
-    let w = read-good (a .«record» .now) _ (r .read .ensures) (λ i. omega (arith, r .before .before .shared-slice-known .given i)) good in
-    subst (λ (x : Fitted). RecordFitted (a .«record» .now) (a .out .now) (a .out .now) x) (sym (c .unfitted2 .ensures))
-    (fit-refused (a .«record» .now) (a .out .now) _ (r .read .ensures) (λ i. omega (arith, r .before .before .shared-slice-known .given i)) good _
-    (c .before .before .before .before .plan-tables .ensures _ (lent-form _ _ w (c .before .before .before .before .before .before .before .before .before .times-of .ensures)))
-    (sym (c .before .before .is-fine2 .ensures) ∙ not-true _ (c .before .if2 .taken)))
-
-write-fitted-requires : tie.Need-write-fitted-requires
-write-fitted-requires c κs =
-    let r = c .before .before .before .before .before .before .before .before .before .before .before .before .before .before in
-    let a = r .before .before .before .args in
-    let good = sym (c .before .before .before .before .before .before .before .before .before .before .before .before .before .is-fine .ensures) ∙ not-false _ (c .before .before .before .before .before .before .before .before .before .before .before .before .if1 .left) in
-    let w = read-good (a .«record» .now) _ (r .read .ensures) (λ i. omega (arith, r .before .before .shared-slice-known .given i)) good in
-    fit-taken (a .«record» .now) (a .out .now) _ (r .read .ensures) (λ i. omega (arith, r .before .before .shared-slice-known .given i)) good _
-    (c .before .before .before .before .before .plan-tables .ensures _ (lent-form _ _ w (c .before .before .before .before .before .before .before .before .before .before .times-of .ensures)))
-    (sym (c .before .before .before .is-fine2 .ensures) ∙ not-false _ (c .before .before .if2 .left))
-
-returns-3 : tie.Need-returns-3
-unfolding fittedAnswer
-returns-3 c =
-    let r = c .before .before .before .before .before .before .before .before .before .before .before .before .before .before .before .before .before in
-    let a = r .before .before .before .args in
-    let good = sym (c .before .before .before .before .before .before .before .before .before .before .before .before .before .before .before .before .is-fine .ensures) ∙ not-false _ (c .before .before .before .before .before .before .before .before .before .before .before .before .before .before .before .if1 .left) in
-    let w = read-good (a .«record» .now) _ (r .read .ensures) (λ i. omega (arith, r .before .before .shared-slice-known .given i)) good in
-    let written = c .before .before .write-fitted .ensures in
-    fit-answered (a .«record» .now) (a .out .now) _ (r .read .ensures) (λ i. omega (arith, r .before .before .shared-slice-known .given i)) good _
-    (c .before .before .before .before .before .before .before .before .plan-tables .ensures _ (lent-form _ _ w (c .before .before .before .before .before .before .before .before .before .before .before .before .before .times-of .ensures)))
-    (sym (c .before .before .before .before .before .before .is-fine2 .ensures) ∙ not-false _ (c .before .before .before .before .before .if2 .left)) _ _ (written .0) (written .1)
+    let good = sym (i .before .is-fine .ensures) ∙ not-false _ (i .if1 .left) in
+    let known = well-read (a .«record» .now) _ (r .read .ensures) (λ i. omega (arith, r .before .before .shared-slice-known .given i)) good in
+    entry-planned fitOf fittedForm unturned (a .«record» .now) (a .out .now) _ (r .read .ensures) known fit-writes _
+    (p .plan-tables .ensures _ (tabled-form _ _ (known .good) (t .times-of .ensures)) (read-kept (a .«record» .now) _ (r .read .ensures) (λ i. omega (arith, r .before .before .shared-slice-known .given i)) good)) _ _ (w .write-plan .ensures)
 
 pub fit-spec : {M : Type 1} → statement M
 fit-spec =
@@ -76,13 +69,9 @@ fit-spec =
     (λ c κs. search needs)
     (λ c κs. search needs)
     (λ c κs. search needs)
-    (λ c κs. search needs)
     returns
     times-of-requires
     plan-tables-requires
-    (λ c κs. search needs)
-    (λ c κs. search needs)
-    returns-2
-    write-fitted-requires
+    write-plan-requires
     (λ c. search needs)
-    returns-3)
+    returns-2)

@@ -43,22 +43,32 @@ weights-requires c κs = c .before .before .before .pre .0
 order-of-requires : tie.Need-order-of-requires Inv-loop μ-loop Inv-nodes μ-nodes Inv-steps μ-steps
 order-of-requires c κs = c .before .before .before .before .before .pre .0 .most
 
-busy-of-requires : tie.Need-busy-of-requires Inv-loop μ-loop Inv-nodes μ-nodes Inv-steps μ-steps
-busy-of-requires c κs =
-    let w = c .before .before .before .before .before .before .before .before .before .before .pre in
-    (w .0 .most, λ v l. (on-board _ (w .1) (w .2) v l, omega (arith, w .2 .in-body v l)))
+-- what is asked, before the order
+abbrev ordered-from : tie.After-order-of Inv-loop μ-loop Inv-nodes μ-nodes Inv-steps μ-steps → tie.Start Inv-loop μ-loop Inv-nodes μ-nodes Inv-steps μ-steps
+ordered-from c = let w = c .before .before in w .before .before .before .before
 
-abbrev asked : tie.After-busy-of Inv-loop μ-loop Inv-nodes μ-nodes Inv-steps μ-steps → tie.Start Inv-loop μ-loop Inv-nodes μ-nodes Inv-steps μ-steps
-asked c = c .before .before .before .before .before .before .before .before .before .before .before
+fill-busy-requires : tie.Need-fill-busy-requires Inv-loop μ-loop Inv-nodes μ-nodes Inv-steps μ-steps
+fill-busy-requires c κs =
+    let i = c .before .before .before .before in
+    let o = i .before .before in
+    let w = ordered-from o .pre in
+    ((i .idle .ensures .0, i .idle .ensures .1), (w .0 .most, λ v l. (on-board _ (w .1) (w .2) v l, omega (arith, w .2 .in-body v l))))
+
+-- the order, and what is asked, as they are had once the table of use is filled
+abbrev order-at : tie.After-fill-busy Inv-loop μ-loop Inv-nodes μ-nodes Inv-steps μ-steps → tie.After-order-of Inv-loop μ-loop Inv-nodes μ-nodes Inv-steps μ-steps
+order-at c = let i = c .before .before .before .before .before in i .before .before
+
+abbrev asked : tie.After-fill-busy Inv-loop μ-loop Inv-nodes μ-nodes Inv-steps μ-steps → tie.Start Inv-loop μ-loop Inv-nodes μ-nodes Inv-steps μ-steps
+asked c = ordered-from (order-at c)
 
 -- the order, from the weights of every loop that the tables tell
-ordered : (c : tie.After-busy-of Inv-loop μ-loop Inv-nodes μ-nodes Inv-steps μ-steps) → Ordered (asked c .args .edges) (asked c .args .from .now) (asked c .args .to .now) (asked c .args .delays .now) (asked c .args .t5) (c .before .before .before .before .before .order-of .result)
+ordered : (c : tie.After-fill-busy Inv-loop μ-loop Inv-nodes μ-nodes Inv-steps μ-steps) → Ordered (asked c .args .edges) (asked c .args .from .now) (asked c .args .to .now) (asked c .args .delays .now) (asked c .args .t5) (order-at c .order-of .result)
 ordered c =
-    let o = c .before .before .before .before .before in
+    let o = order-at c in
     ordered-of _ _ _ _ _ _ _ (λ g pair told timed. o .before .before .weights .ensures g (pair .retiming) told (λ v l. timed .retimed v)) (o .order-of .ensures .0) (o .order-of .ensures .1)
 
 steps-holds : tie.Need-steps-holds Inv-loop μ-loop Inv-nodes μ-nodes Inv-steps μ-steps
-steps-holds c = (omega arith, omega arith, filling-none _ _ _ _ _ _ (search needs) (c .busy-of .ensures))
+steps-holds c = (omega arith, omega arith, filling-none _ _ _ _ _ _ (search needs) (c .fill-busy .ensures))
 
 -- ---- a step
 
@@ -66,7 +76,7 @@ unplaced-requires : tie.Need-unplaced-requires Inv-loop μ-loop Inv-nodes μ-nod
 unplaced-requires c κs = asked (c .before .before .before) .pre .0 .most
 
 -- what is had before the steps
-abbrev from-step : tie.In-steps Inv-loop μ-loop Inv-nodes μ-nodes Inv-steps μ-steps → tie.After-busy-of Inv-loop μ-loop Inv-nodes μ-nodes Inv-steps μ-steps
+abbrev from-step : tie.In-steps Inv-loop μ-loop Inv-nodes μ-nodes Inv-steps μ-steps → tie.After-fill-busy Inv-loop μ-loop Inv-nodes μ-nodes Inv-steps μ-steps
 from-step c = c .before .before
 
 waiting-requires : tie.Need-waiting-requires Inv-loop μ-loop Inv-nodes μ-nodes Inv-steps μ-steps
@@ -83,16 +93,16 @@ nodes-holds c =
 abbrev stepped : tie.At-nodes Inv-loop μ-loop Inv-nodes μ-nodes Inv-steps μ-steps → tie.In-steps Inv-loop μ-loop Inv-nodes μ-nodes Inv-steps μ-steps
 stepped c = c .before .before .before .before .before .before .before .before .before
 
-abbrev begun : tie.In-nodes Inv-loop μ-loop Inv-nodes μ-nodes Inv-steps μ-steps → tie.After-busy-of Inv-loop μ-loop Inv-nodes μ-nodes Inv-steps μ-steps
+abbrev begun : tie.In-nodes Inv-loop μ-loop Inv-nodes μ-nodes Inv-steps μ-steps → tie.After-fill-busy Inv-loop μ-loop Inv-nodes μ-nodes Inv-steps μ-steps
 begun c = from-step (stepped (c .before))
 
-node-in : (c : tie.In-nodes Inv-loop μ-loop Inv-nodes μ-nodes Inv-steps μ-steps) → getD (begun c .before .before .before .before .before .order-of .result) (c .before .nodes .i) 0 < asked (begun c) .args .t5 .nodes
+node-in : (c : tie.In-nodes Inv-loop μ-loop Inv-nodes μ-nodes Inv-steps μ-steps) → getD (order-at (begun c) .order-of .result) (c .before .nodes .i) 0 < asked (begun c) .args .t5 .nodes
 node-in c = ordered (begun c) .below _ (c .nodes-test .taken)
 
-node-place : (c : tie.In-nodes Inv-loop μ-loop Inv-nodes μ-nodes Inv-steps μ-steps) → getD (begun c .before .before .before .before .before .order-of .result) (c .before .nodes .i) 0 < 64
+node-place : (c : tie.In-nodes Inv-loop μ-loop Inv-nodes μ-nodes Inv-steps μ-steps) → getD (order-at (begun c) .order-of .result) (c .before .nodes .i) 0 < 64
 node-place c = omega (arith, node-in c, asked (begun c) .pre .0 .most)
 
-board : (c : tie.In-nodes Inv-loop μ-loop Inv-nodes μ-nodes Inv-steps μ-steps) → OnBoard (asked (begun c) .args .t5 .class) (asked (begun c) .args .t5 .runs) (getD (begun c .before .before .before .before .before .order-of .result) (c .before .nodes .i) 0)
+board : (c : tie.In-nodes Inv-loop μ-loop Inv-nodes μ-nodes Inv-steps μ-steps) → OnBoard (asked (begun c) .args .t5 .class) (asked (begun c) .args .t5 .runs) (getD (order-at (begun c) .order-of .result) (c .before .nodes .i) 0)
 board c = let w = asked (begun c) .pre in on-board _ (w .1) (w .2) _ (node-in c)
 
 turn-in : (c : tie.In-nodes Inv-loop μ-loop Inv-nodes μ-nodes Inv-steps μ-steps) → c .before .nodes .i < 64
@@ -259,7 +269,8 @@ list-rule-spec =
     μ-steps
     weights-requires
     order-of-requires
-    busy-of-requires
+    (λ c κs. search needs)
+    fill-busy-requires
     steps-holds
     unplaced-requires
     waiting-requires

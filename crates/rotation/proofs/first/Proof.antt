@@ -5,10 +5,13 @@ use native.Mathlib.Omega.{arith}
 use borrow.Author.Tests.{not-true, not-false}
 use borrow.Author.Needs.{needs}
 use Rattle.record.specs.Read.{read-good}
+use Rattle.record.specs.ReadFirst.{well-read}
+use Rattle.plans.specs.Tabled.{tabled-form}
+use Rattle.plans.specs.Scheduling.{unturned}
+use Rattle.plans.proofs.Entries.{entry-unread, plan-taken, entry-planned}
 use Rattle.turning.specs.Rotation.{firstForm}
-use Rattle.turning.specs.Lending.{tabled-form}
-use Rattle.rotation.specs.Scheduling.{firstAsked, unturned}
-use Rattle.rotation.proofs.Entries.{entry-unread, plan-taken, entry-planned, first-writes}
+use Rattle.rotation.specs.Rotating.{firstAsked}
+use Rattle.rotation.proofs.FirstPlans.{first-writes}
 use Rattle.rotation.proofs.first.Statement.{statement}
 use Rattle.rotation.proofs.first.Tie as tie
 
@@ -40,9 +43,9 @@ write-plan-requires c κs =
     let r = i .before .before in
     let a = r .before .before .before .args in
     let good = sym (i .before .is-fine .ensures) ∙ not-false _ (i .if1 .left) in
-    let w = read-good (a .«record» .now) _ (r .read .ensures) (λ i. omega (arith, r .before .before .shared-slice-known .given i)) good in
-    plan-taken firstAsked firstForm unturned (a .«record» .now) (a .out .now) _ (r .read .ensures) (λ i. omega (arith, r .before .before .shared-slice-known .given i)) good first-writes _
-    (p .first-plan .ensures _ (tabled-form _ _ w (t .times-of .ensures)))
+    let known = well-read (a .«record» .now) _ (r .read .ensures) (λ i. omega (arith, r .before .before .shared-slice-known .given i)) good in
+    plan-taken firstAsked firstForm unturned (a .«record» .now) (a .out .now) _ (r .read .ensures) known first-writes _
+    (p .first-plan .ensures _ (tabled-form _ _ (known .good) (t .times-of .ensures)))
 
 returns-2 : tie.Need-returns-2
 returns-2 c =
@@ -53,9 +56,9 @@ returns-2 c =
     let r = i .before .before in
     let a = r .before .before .before .args in
     let good = sym (i .before .is-fine .ensures) ∙ not-false _ (i .if1 .left) in
-    let whole = read-good (a .«record» .now) _ (r .read .ensures) (λ i. omega (arith, r .before .before .shared-slice-known .given i)) good in
-    entry-planned firstAsked firstForm unturned (a .«record» .now) (a .out .now) _ (r .read .ensures) (λ i. omega (arith, r .before .before .shared-slice-known .given i)) good first-writes _
-    (p .first-plan .ensures _ (tabled-form _ _ whole (t .times-of .ensures))) _ _ (w .write-plan .ensures)
+    let known = well-read (a .«record» .now) _ (r .read .ensures) (λ i. omega (arith, r .before .before .shared-slice-known .given i)) good in
+    entry-planned firstAsked firstForm unturned (a .«record» .now) (a .out .now) _ (r .read .ensures) known first-writes _
+    (p .first-plan .ensures _ (tabled-form _ _ (known .good) (t .times-of .ensures))) _ _ (w .write-plan .ensures)
 
 pub first-spec : {M : Type 1} → statement M
 first-spec =

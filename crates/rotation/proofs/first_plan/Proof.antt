@@ -5,9 +5,10 @@ use Prim.Native.Nat.{_≤_}
 use native.Mathlib.Omega.{arith}
 use borrow.Author.Needs.{needs}
 use Rattle.tables.specs.Lent.{lent-ends}
+use Rattle.plans.specs.Scheduling.{Planned, unturned}
 use Rattle.turning.specs.Rotation.{firstForm}
-use Rattle.rotation.specs.Scheduling.{Planned, firstAsked, unturned}
-use Rattle.rotation.proofs.Entries.{first-knot, first-planned}
+use Rattle.rotation.specs.Rotating.{firstAsked}
+use Rattle.rotation.proofs.FirstPlans.{first-knot, first-planned}
 use Rattle.rotation.proofs.first_plan.Statement.{statement}
 use Rattle.rotation.proofs.first_plan.Tie as tie
 

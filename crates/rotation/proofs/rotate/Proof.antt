@@ -5,9 +5,11 @@ use native.Mathlib.Omega.{arith}
 use borrow.Author.Tests.{not-true, not-false}
 use borrow.Author.Needs.{needs}
 use Rattle.record.specs.Read.{read-good}
-use Rattle.turning.specs.Lending.{tabled-form}
-use Rattle.rotation.specs.Scheduling.{rotateAsked, rotatedBy, unturned}
-use Rattle.rotation.proofs.Entries.{entry-unread, plan-taken, entry-planned}
+use Rattle.record.specs.ReadFirst.{well-read}
+use Rattle.plans.specs.Tabled.{tabled-form}
+use Rattle.plans.specs.Scheduling.{unturned}
+use Rattle.plans.proofs.Entries.{entry-unread, plan-taken, entry-planned}
+use Rattle.rotation.specs.Rotating.{rotateAsked, rotatedBy}
 use Rattle.rotation.proofs.Rotates.{rotate-writes}
 use Rattle.rotation.proofs.rotate.Statement.{statement}
 use Rattle.rotation.proofs.rotate.Tie as tie
@@ -40,9 +42,9 @@ write-plan-requires c κs =
     let r = i .before .before in
     let a = r .before .before .before .args in
     let good = sym (i .before .is-fine .ensures) ∙ not-false _ (i .if1 .left) in
-    let w = read-good (a .«record» .now) _ (r .read .ensures) (λ i. omega (arith, r .before .before .shared-slice-known .given i)) good in
-    plan-taken (rotateAsked (a .steps)) (rotatedBy (a .steps)) unturned (a .«record» .now) (a .out .now) _ (r .read .ensures) (λ i. omega (arith, r .before .before .shared-slice-known .given i)) good (rotate-writes (a .steps)) _
-    (p .rotate-plan .ensures _ (tabled-form _ _ w (t .times-of .ensures)))
+    let known = well-read (a .«record» .now) _ (r .read .ensures) (λ i. omega (arith, r .before .before .shared-slice-known .given i)) good in
+    plan-taken (rotateAsked (a .steps)) (rotatedBy (a .steps)) unturned (a .«record» .now) (a .out .now) _ (r .read .ensures) known (rotate-writes (a .steps)) _
+    (p .rotate-plan .ensures _ (tabled-form _ _ (known .good) (t .times-of .ensures)))
 
 returns-2 : tie.Need-returns-2
 returns-2 c =
@@ -53,9 +55,9 @@ returns-2 c =
     let r = i .before .before in
     let a = r .before .before .before .args in
     let good = sym (i .before .is-fine .ensures) ∙ not-false _ (i .if1 .left) in
-    let whole = read-good (a .«record» .now) _ (r .read .ensures) (λ i. omega (arith, r .before .before .shared-slice-known .given i)) good in
-    entry-planned (rotateAsked (a .steps)) (rotatedBy (a .steps)) unturned (a .«record» .now) (a .out .now) _ (r .read .ensures) (λ i. omega (arith, r .before .before .shared-slice-known .given i)) good (rotate-writes (a .steps)) _
-    (p .rotate-plan .ensures _ (tabled-form _ _ whole (t .times-of .ensures))) _ _ (w .write-plan .ensures)
+    let known = well-read (a .«record» .now) _ (r .read .ensures) (λ i. omega (arith, r .before .before .shared-slice-known .given i)) good in
+    entry-planned (rotateAsked (a .steps)) (rotatedBy (a .steps)) unturned (a .«record» .now) (a .out .now) _ (r .read .ensures) known (rotate-writes (a .steps)) _
+    (p .rotate-plan .ensures _ (tabled-form _ _ (known .good) (t .times-of .ensures))) _ _ (w .write-plan .ensures)
 
 pub rotate-spec : {M : Type 1} → statement M
 rotate-spec =

@@ -4,7 +4,8 @@ use mathlib.Core.Path.{refl, sym, subst, _∙_}
 use native.Mathlib.Omega.{arith}
 use borrow.Author.Needs.{needs}
 use borrow.Author.Tests.{not-true, not-false}
-use Rattle.rotation.specs.Scheduling.{Planned, rotateAsked, rotatedBy, unturned}
+use Rattle.plans.specs.Scheduling.{Planned, unturned}
+use Rattle.rotation.specs.Rotating.{rotateAsked, rotatedBy}
 use Rattle.rotation.proofs.Rotates.{turns-here, judge-accepted, accepted-alone, rotate-unjudged, rotate-turnable, rotate-size, rotate-too-long, rotate-planned}
 use Rattle.rotation.proofs.rotate_plan.Statement.{statement}
 use Rattle.rotation.proofs.rotate_plan.Tie as tie

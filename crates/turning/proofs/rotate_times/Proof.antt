@@ -3,7 +3,7 @@
 use Prim.Native.Nat.{_≤_}
 use native.Mathlib.Omega.{arith}
 use borrow.Author.Needs.{needs}
-use Rattle.turning.specs.Pairs.{timesWith}
+use Rattle.plans.specs.Pairs.{timesWith}
 use Rattle.turning.specs.Rotation.{turnedForm}
 use Rattle.turning.proofs.Rotations.{rotate-long, rotate-lent, rotate-some, rotate-is}
 use Rattle.turning.proofs.rotate_times.Statement.{statement}

@@ -1,7 +1,7 @@
 -- `turning::with_pair` meets its contract.
 -- Assumes nothing.
 use mathlib.Core.Path.{refl}
-use Rattle.turning.specs.Pairs.{timesWith}
+use Rattle.plans.specs.Pairs.{timesWith}
 use Rattle.turning.proofs.with_pair.Statement.{statement}
 use Rattle.turning.proofs.with_pair.Tie as tie
 

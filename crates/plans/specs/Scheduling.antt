@@ -1,37 +1,34 @@
--- What first, rotation and search answer: the reader's refusal, the form's, then Room; else the whole record with the new pair.
+-- What a fit, a first schedule, a rotation and a search answer: the reader's refusal, the form's, then Room; else the whole record with the new pair.
 -- Assumes nothing.
 use mathlib.Core.Path.{_≡_}
-use mathlib.Core.Bool.{Bool, true, _&&_}
+use mathlib.Core.Bool.{true}
 use mathlib.Core.List.{List}
 use Prim.Native.Nat.{ℕ}
-use lib.Dec.{ltb}
 use lib.ListN.{length}
 use lib.Seq.{sets}
 use Rattle.lists.specs.Pick.{pick}
 use Rattle.answer.specs.Refused.{fine}
 use Rattle.answer.specs.declared.Refusal.{Refusal}
-use Rattle.answer.specs.declared.Refusal.the-variants.{None, Knot, Size, Long}
 use Rattle.form.specs.declared.Form.{Form}
 use Rattle.reader.specs.Reading.{readForm}
+use Rattle.record.specs.ReadFirst.{readFirst}
 use Rattle.writer.specs.Layout.{layout}
 use Rattle.writer.specs.Writing.{refusalOf}
 use Rattle.legal.specs.Loop.{loopOf, pairOf}
-use Rattle.legal.specs.Systems.{knotted}
-use Rattle.legal.specs.Judging.{judgeOf}
 use Rattle.legal.specs.Handed.{Handed}
-use Rattle.turning.specs.Pairs.{withTimes}
-use Rattle.turning.specs.Rotation.{rotated, tooLong}
-use Rattle.rotation.specs.declared.Plan.{Plan}
-use Rattle.rotation.specs.declared.Scheduled.{Scheduled}
+use Rattle.plans.specs.Pairs.{withTimes}
+use Rattle.plans.specs.declared.Plan.{Plan}
+use Rattle.plans.specs.declared.Scheduled.{Scheduled}
 
 -- what a form is refused for, its form with the new pair, and the rotations that this takes
 module _ (asked : Form → Refusal) (planned : Form → Form) (turned : Form → ℕ) where
+  -- what is refused of a form, with so much room
+  abbrev pub scheduleRefusal : ℕ → Form → Refusal
+  scheduleRefusal room f = pick (fine (asked f)) (refusalOf (planned f) room) (asked f)
+
   -- what is refused of a record, with so much room
   unfoldable pub scheduleRecord : List ℕ → ℕ → Refusal
-  scheduleRecord s room =
-      pick (fine (readForm s .refusal))
-      (pick (fine (asked (readForm s .form))) (refusalOf (planned (readForm s .form)) room) (asked (readForm s .form)))
-      (readForm s .refusal)
+  scheduleRecord s room = readFirst s (scheduleRefusal room)
 
   pub record RecordScheduled (s out out′ : List ℕ) (r : Scheduled) : Type 0 where
     pub refusal : r .refusal ≡ scheduleRecord s (length out)
@@ -55,20 +52,6 @@ pub record PlanWritten (f : Form) (y : Plan) (out out′ : List ℕ) (r : Schedu
   pub buffer : out′ ≡ pick (fine (r .refusal)) (sets out 0 (layout (withTimes f (y .times)))) out
   pub cycle : r .cycle ≡ y .cycle
 
--- the first schedule: only a knot is refused, and nothing is rotated
-unfoldable pub firstAsked : Form → Refusal
-firstAsked f = pick (knotted (loopOf f)) Knot None
-
+-- where nothing is rotated
 abbrev pub unturned : Form → ℕ
 unturned f = 0
-
--- z steps can be rotated: z is from 1 to the length less 1
-unfoldable pub turns : ℕ → ℕ → Bool
-turns z l = ltb 0 z && ltb z l
-
--- a rotation: what the judge refuses, then Size, then Long
-unfoldable pub rotateAsked : ℕ → Form → Refusal
-rotateAsked z f = pick (fine (judgeOf f)) (pick (turns z (f .header .length)) (pick (tooLong f z) Long None) (Size z)) (judgeOf f)
-
-abbrev pub rotatedBy : ℕ → Form → Form
-rotatedBy z f = rotated f z

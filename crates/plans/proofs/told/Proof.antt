@@ -1,9 +1,9 @@
--- `rotation::told` meets its contract.
+-- `plans::told` meets its contract.
 -- Assumes nothing.
 use mathlib.Core.Path.{sym}
 use Rattle.lists.specs.Pick.{pick-true, pick-false}
-use Rattle.rotation.proofs.told.Statement.{statement}
-use Rattle.rotation.proofs.told.Tie as tie
+use Rattle.plans.proofs.told.Statement.{statement}
+use Rattle.plans.proofs.told.Tie as tie
 
 returns : tie.Need-returns
 returns c = sym (pick-true _ _ _ (c .if1 .taken))

@@ -18,9 +18,13 @@ use Rattle.tables.specs.Times.{timesOf}
 abbrev pub asBodyStep : ℕ → BodyStep
 asBodyStep n = record { 0 = n }
 
+-- the form with the steps, length and retimings given
+abbrev pub withSteps : Form → List BodyStep → ℕ → List ℕ → Form
+withSteps f s l r = withCounts (withStarts f s r) (f .header .classes) (f .header .nodes) (f .header .edges) l
+
 -- the form with the starts, length and retimings given
 unfoldable pub withPair : Form → List ℕ → ℕ → List ℕ → Form
-withPair f s l r = withCounts (withStarts f (map asBodyStep s) r) (f .header .classes) (f .header .nodes) (f .header .edges) l
+withPair f s l r = withSteps f (map asBodyStep s) l r
 
 -- the form with the pair of a timetable
 unfoldable pub withTimes : Form → Timetable → Form

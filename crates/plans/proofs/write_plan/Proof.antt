@@ -1,4 +1,4 @@
--- `rotation::write_plan` meets its contract: the refusal of the plan, else what the writer makes of the form with its pair.
+-- `plans::write_plan` meets its contract: the refusal of the plan, else what the writer makes of the form with its pair.
 -- Assumes nothing.
 use mathlib.Core.Path.{_≡_, sym, subst, _∙_}
 use mathlib.Core.Bool.{true}
@@ -8,10 +8,10 @@ use Rattle.answer.specs.Refused.{fine}
 use Rattle.form.specs.declared.Form.{Form}
 use Rattle.reader.specs.Reading.{readForm}
 use Rattle.writer.specs.Layout.{layout}
-use Rattle.rotation.proofs.Entries.{plan-refused, plan-written}
-use Rattle.rotation.proofs.Steps.{stored}
-use Rattle.rotation.proofs.write_plan.Statement.{statement}
-use Rattle.rotation.proofs.write_plan.Tie as tie
+use Rattle.plans.proofs.Entries.{plan-refused, plan-written}
+use Rattle.plans.proofs.Steps.{stored}
+use Rattle.plans.proofs.write_plan.Statement.{statement}
+use Rattle.plans.proofs.write_plan.Tie as tie
 
 returns : tie.Need-returns
 returns c = plan-refused _ _ _ (sym (c .before .is-fine .ensures) ∙ not-true _ (c .if1 .taken))

@@ -9,9 +9,8 @@ use lib.Seq.{ext-getD}
 use Rattle.lists.specs.Filled.{filled, fill-none, fill-more, filled-at, filled-length}
 use Rattle.form.specs.declared.Form.{Form}
 use Rattle.form.specs.declared.BodyStep.{BodyStep}
-use Rattle.form.specs.Places.{withCounts, withStarts}
 use Rattle.tables.specs.declared.Timetable.{Timetable}
-use Rattle.turning.specs.Pairs.{asBodyStep, withPair, withTimes}
+use Rattle.plans.specs.Pairs.{asBodyStep, withSteps, withPair, withTimes}
 
 step-set : (xs : List ℕ) (v a : ℕ) → set (map asBodyStep xs) v (asBodyStep a) ≡ map asBodyStep (set xs v a)
 step-set [] v a = refl
@@ -41,10 +40,7 @@ module _ (s : List ℕ) where
       ap (λ (n : ℕ). map asBodyStep (filled 64 (λ u. getD s u 0) n)) e
       ∙ ap (map asBodyStep) (ext-getD 0 (filled 64 (λ u. getD s u 0) 64) s (omega (arith, whole, long)) (λ u l. filled-at 64 (λ u. getD s u 0) 64 u (omega (arith, whole))))
 
--- what the fields of a form are set to
-abbrev withSteps : Form → List BodyStep → ℕ → List ℕ → Form
-withSteps f s l r = withCounts (withStarts f s r) (f .header .classes) (f .header .nodes) (f .header .edges) l
-
+-- the fields of a form set to a timetable's
 pub stored : (f : Form) (t : Timetable) (steps : List BodyStep) → steps ≡ map asBodyStep (t .start) → withSteps f steps (t .length) (t .retiming) ≡ withTimes f t
 unfolding withTimes withPair
 stored f t steps e = ap (λ (s : List BodyStep). withSteps f s (t .length) (t .retiming)) e

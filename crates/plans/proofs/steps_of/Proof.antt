@@ -1,12 +1,12 @@
--- `rotation::steps_of` meets its contract: the numbers passed are steps.
+-- `plans::steps_of` meets its contract: the numbers passed are steps.
 -- Assumes nothing.
 use mathlib.Core.Path.{_≡_, refl, _∙_}
 use Prim.Native.Nat.{_≤_, _-_}
 use native.Mathlib.Omega.{arith}
 use borrow.Author.Needs.{needs}
-use Rattle.rotation.proofs.Steps.{stepped, stepped-none, stepped-more, stepped-all}
-use Rattle.rotation.proofs.steps_of.Statement.{statement}
-use Rattle.rotation.proofs.steps_of.Tie as tie
+use Rattle.plans.proofs.Steps.{stepped, stepped-none, stepped-more, stepped-all}
+use Rattle.plans.proofs.steps_of.Statement.{statement}
+use Rattle.plans.proofs.steps_of.Tie as tie
 
 abbrev Inv-loop : tie.InvT-loop
 Inv-loop start steps₀ v₀ steps v = (v ≤ 64) × (steps ≡ stepped start v)

@@ -1,0 +1,4 @@
+pub mod Pairs
+pub mod Tabled
+pub mod Kept
+pub mod Scheduling
