@@ -63,28 +63,6 @@ slice-aggregate-tell-plain c = sym (length-take-le _ _ (search needs))
 pub lend-values-spec : {M : Type 1} → statement M
 lend-values-spec =
     tie.close
-    (tie.spec
-    (λ c. search needs)
-    (λ c. search needs)
-    (λ c κs. search needs)
-    (λ c. search needs)
-    (λ c. search needs)
-    (λ c κs. search needs)
-    (λ c. search needs)
-    (λ c. search needs)
-    (λ c. search needs)
-    (λ c κs. search needs)
-    (λ c. search needs)
-    (λ c κs. search needs)
-    (λ c. search needs)
-    (λ c κs. search needs)
-    (λ c. search needs)
-    slice-aggregate-tell-run
-    (λ c. search needs)
-    slice-aggregate-tell-run-2
-    (λ c κs. search needs)
-    (λ c. search needs)
-    slice-aggregate-tell-plain
-    (λ c κs. search needs)
-    (λ c. search needs)
-    (λ c. search needs))
+    (tie.spec (λ c. search needs) (λ c. search needs) (λ c κs. search needs) (λ c. search needs) (λ c. search needs) (λ c κs. search needs) (λ c. search needs) (λ c. search needs)
+    (λ c. search needs) (λ c κs. search needs) (λ c. search needs) (λ c κs. search needs) (λ c. search needs) (λ c κs. search needs) (λ c. search needs) slice-aggregate-tell-run
+    (λ c. search needs) slice-aggregate-tell-run-2 (λ c κs. search needs) (λ c. search needs) slice-aggregate-tell-plain (λ c κs. search needs) (λ c. search needs) (λ c. search needs))

@@ -52,20 +52,5 @@ slice-aggregate-lend-values c =
 pub lend-words-spec : {M : Type 1} → statement M
 lend-words-spec =
     tie.close
-    (tie.spec
-    (λ c. search needs)
-    (λ c. search needs)
-    (λ c κs. search needs)
-    (λ c. search needs)
-    (λ c. search needs)
-    (λ c κs. search needs)
-    (λ c. search needs)
-    (λ c. search needs)
-    (λ c κs. search needs)
-    (λ c. search needs)
-    slice-aggregate-fill
-    (λ c κs. search needs)
-    array-share-prefix-starts
-    slice-aggregate-lend-values
-    (λ c κs. search needs)
-    (λ c. search needs))
+    (tie.spec (λ c. search needs) (λ c. search needs) (λ c κs. search needs) (λ c. search needs) (λ c. search needs) (λ c κs. search needs) (λ c. search needs) (λ c. search needs)
+    (λ c κs. search needs) (λ c. search needs) slice-aggregate-fill (λ c κs. search needs) array-share-prefix-starts slice-aggregate-lend-values (λ c κs. search needs) (λ c. search needs))

@@ -39,13 +39,4 @@ returns c =
 pub best-start-spec : {M : Type 1} → statement M
 best-start-spec =
     tie.close
-    (tie.spec
-    Inv-loop
-    μ-loop
-    (λ c. search needs)
-    loop-holds
-    fewest-at-requires
-    (λ c. search needs)
-    (λ c. search needs)
-    loop-again
-    returns)
+    (tie.spec Inv-loop μ-loop (λ c. search needs) loop-holds fewest-at-requires (λ c. search needs) (λ c. search needs) loop-again returns)

@@ -54,16 +54,5 @@ returns-2 c = record { some = omega arith; within = omega arith; fewer = c .befo
 pub fewest-at-spec : {M : Type 1} → statement M
 fewest-at-spec =
     tie.close
-    (tie.spec
-    Inv-loop
-    μ-loop
-    (λ c κs. search needs)
-    loop-holds
-    next-row-requires
-    (λ c. search needs)
-    (λ c. search needs)
-    returns
-    (λ c. search needs)
-    (λ c. search needs)
-    loop-again
+    (tie.spec Inv-loop μ-loop (λ c κs. search needs) loop-holds next-row-requires (λ c. search needs) (λ c. search needs) returns (λ c. search needs) (λ c. search needs) loop-again
     returns-2)

@@ -72,23 +72,5 @@ returns-2 c = record { within = omega arith; first = c .before .loop .inv .1; fo
 pub next-edge-spec : {M : Type 1} → statement M
 next-edge-spec =
     tie.close
-    (tie.spec
-    Inv-loop
-    μ-loop
-    loop-holds
-    (λ c. search needs)
-    (λ c. search needs)
-    cast-v
-    (λ c. search needs)
-    mul-gives
-    element-copy-out-gives
-    (λ c. search needs)
-    (λ c. search needs)
-    (λ c. search needs)
-    (λ c. search needs)
-    gives-requires
-    returns
-    (λ c. search needs)
-    (λ c. search needs)
-    loop-again
-    returns-2)
+    (tie.spec Inv-loop μ-loop loop-holds (λ c. search needs) (λ c. search needs) cast-v (λ c. search needs) mul-gives element-copy-out-gives (λ c. search needs) (λ c. search needs)
+    (λ c. search needs) (λ c. search needs) gives-requires returns (λ c. search needs) (λ c. search needs) loop-again returns-2)

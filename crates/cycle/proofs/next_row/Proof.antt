@@ -75,28 +75,6 @@ returns c =
 pub next-row-spec : {M : Type 1} → statement M
 next-row-spec =
     tie.close
-    (tie.spec
-    Inv-loop
-    μ-loop
-    loop-holds
-    (λ c. search needs)
-    (λ c. search needs)
-    cast-u
-    (λ c. search needs)
-    cast-v
-    mul-larger
-    array-read-larger
-    mul-carried
-    element-copy-out-carried
-    (λ c. search needs)
-    (λ c. search needs)
-    (λ c. search needs)
-    (λ c. search needs)
-    carried-requires
-    (λ c κs. search needs)
-    mul-next
-    array-write-next
-    (λ c. search needs)
-    (λ c. search needs)
-    loop-again
-    returns)
+    (tie.spec Inv-loop μ-loop loop-holds (λ c. search needs) (λ c. search needs) cast-u (λ c. search needs) cast-v mul-larger array-read-larger mul-carried element-copy-out-carried
+    (λ c. search needs) (λ c. search needs) (λ c. search needs) (λ c. search needs) carried-requires (λ c κs. search needs) mul-next array-write-next (λ c. search needs) (λ c. search needs)
+    loop-again returns)

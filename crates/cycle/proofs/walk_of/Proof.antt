@@ -96,24 +96,5 @@ returns c =
 pub walk-of-spec : {M : Type 1} → statement M
 walk-of-spec =
     tie.close
-    (tie.spec
-    Inv-loop
-    μ-loop
-    (λ c. search needs)
-    loop-holds
-    (λ c. search needs)
-    (λ c. search needs)
-    row-of-requires
-    next-edge-requires
-    (λ c. search needs)
-    (λ c. search needs)
-    (λ c. search needs)
-    cast-node
-    element-copy-out-node
-    cast-value
-    mul-value
-    array-read-value
-    (λ c. search needs)
-    (λ c. search needs)
-    loop-again
-    returns)
+    (tie.spec Inv-loop μ-loop (λ c. search needs) loop-holds (λ c. search needs) (λ c. search needs) row-of-requires next-edge-requires (λ c. search needs) (λ c. search needs)
+    (λ c. search needs) cast-node element-copy-out-node cast-value mul-value array-read-value (λ c. search needs) (λ c. search needs) loop-again returns)

@@ -30,17 +30,5 @@ returns-3 c = fits _ _ (c .before .before .before .before .before .before .befor
 pub draw-spec : {M : Type 1} → statement M
 draw-spec =
     tie.close
-    (tie.spec
-    (λ c κs. search tests)
-    (λ c κs. search tests)
-    returns
-    times-of-requires
-    (λ c. search tests)
-    (λ c. search tests)
-    put-table-requires
-    (λ c. search tests)
-    returns-2
-    put-table-requires-2
-    (λ c. search tests)
-    (λ c. search tests)
-    returns-3)
+    (tie.spec (λ c κs. search tests) (λ c κs. search tests) returns times-of-requires (λ c. search tests) (λ c. search tests) put-table-requires (λ c. search tests) returns-2
+    put-table-requires-2 (λ c. search tests) (λ c. search tests) returns-3)

@@ -31,13 +31,4 @@ returns c = (search tests, blanks-whole _ _ _ _ _ _ (omega arith) (c .before .lo
 pub put-blanks-spec : {M : Type 1} → statement M
 put-blanks-spec =
     tie.close
-    (tie.spec
-    Inv-loop
-    μ-loop
-    loop-holds
-    (λ c κs. search tests)
-    (λ c. search tests)
-    (λ c. search tests)
-    loop-again
-    same-length
-    returns)
+    (tie.spec Inv-loop μ-loop loop-holds (λ c κs. search tests) (λ c. search tests) (λ c. search tests) loop-again same-length returns)

@@ -16,20 +16,5 @@ returns-2 c = (search tests, pipelined-put _ _ _ _ _ _ _ _ _ _ (c .before .befor
 pub put-class-spec : {M : Type 1} → statement M
 put-class-spec =
     tie.close
-    (tie.spec
-    (λ c. search tests)
-    (λ c κs. search tests)
-    (λ c. search tests)
-    (λ c. search tests)
-    (λ c κs. search tests)
-    (λ c. search tests)
-    (λ c. search tests)
-    (λ c κs. search tests)
-    (λ c. search tests)
-    (λ c κs. search tests)
-    (λ c. search tests)
-    returns
-    (λ c. search tests)
-    (λ c κs. search tests)
-    (λ c. search tests)
-    returns-2)
+    (tie.spec (λ c. search tests) (λ c κs. search tests) (λ c. search tests) (λ c. search tests) (λ c κs. search tests) (λ c. search tests) (λ c. search tests) (λ c κs. search tests)
+    (λ c. search tests) (λ c κs. search tests) (λ c. search tests) returns (λ c. search tests) (λ c κs. search tests) (λ c. search tests) returns-2)

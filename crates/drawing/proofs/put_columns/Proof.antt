@@ -38,16 +38,5 @@ returns c = (search tests, λ f t k. rows-whole _ _ _ _ _ _ _ (c .before .loop .
 pub put-columns-spec : {M : Type 1} → statement M
 put-columns-spec =
     tie.close
-    (tie.spec
-    Inv-loop
-    μ-loop
-    loop-holds
-    (λ c. search tests)
-    (λ c. search tests)
-    (λ c. search tests)
-    put-places-requires
-    (λ c. search tests)
-    (λ c. search tests)
-    loop-again
-    (λ c. search tests)
-    returns)
+    (tie.spec Inv-loop μ-loop loop-holds (λ c. search tests) (λ c. search tests) (λ c. search tests) put-places-requires (λ c. search tests) (λ c. search tests) loop-again
+    (λ c. search tests) returns)

@@ -13,13 +13,5 @@ returns c = (search tests, head-put _ _ _ _ _ _ _ _ _ _ _ (omega (arith, (c .bef
 pub put-head-spec : {M : Type 1} → statement M
 put-head-spec =
     tie.close
-    (tie.spec
-    (λ c κs. search tests)
-    (λ c. search tests)
-    (λ c. search tests)
-    (λ c κs. search tests)
-    (λ c. search tests)
-    (λ c κs. search tests)
-    (λ c κs. search tests)
-    (λ c. search tests)
+    (tie.spec (λ c κs. search tests) (λ c. search tests) (λ c. search tests) (λ c κs. search tests) (λ c. search tests) (λ c κs. search tests) (λ c κs. search tests) (λ c. search tests)
     returns)

@@ -11,12 +11,4 @@ returns c = (search tests, right-put _ _ _ _ _ _ _ _ (held-left _ _ (c .before .
 pub put-held-spec : {M : Type 1} → statement M
 put-held-spec =
     tie.close
-    (tie.spec
-    (λ c κs. search tests)
-    (λ c. search tests)
-    (λ c κs. search tests)
-    (λ c. search tests)
-    (λ c κs. search tests)
-    (λ c κs. search tests)
-    (λ c. search tests)
-    returns)
+    (tie.spec (λ c κs. search tests) (λ c. search tests) (λ c κs. search tests) (λ c. search tests) (λ c κs. search tests) (λ c κs. search tests) (λ c. search tests) returns)

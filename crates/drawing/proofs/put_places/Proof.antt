@@ -13,14 +13,5 @@ returns c = (search tests, λ f t k. places-put f _ _ _ _ _ t _ _ _ _ _ _ k (c .
 pub put-places-spec : {M : Type 1} → statement M
 put-places-spec =
     tie.close
-    (tie.spec
-    (λ c κs. search tests)
-    (λ c κs. search tests)
-    (λ c. search tests)
-    (λ c κs. search tests)
-    (λ c κs. search tests)
-    (λ c κs. search tests)
-    (λ c κs. search tests)
-    (λ c κs. search tests)
-    (λ c. search tests)
-    returns)
+    (tie.spec (λ c κs. search tests) (λ c κs. search tests) (λ c. search tests) (λ c κs. search tests) (λ c κs. search tests) (λ c κs. search tests) (λ c κs. search tests)
+    (λ c κs. search tests) (λ c. search tests) returns)

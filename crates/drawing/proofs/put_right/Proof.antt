@@ -10,10 +10,4 @@ returns c = (search tests, right-put _ _ _ _ _ _ _ _ (number-left _ _ (c .before
 pub put-right-spec : {M : Type 1} → statement M
 put-right-spec =
     tie.close
-    (tie.spec
-    (λ c κs. search tests)
-    (λ c. search tests)
-    (λ c κs. search tests)
-    (λ c κs. search tests)
-    (λ c. search tests)
-    returns)
+    (tie.spec (λ c κs. search tests) (λ c. search tests) (λ c κs. search tests) (λ c κs. search tests) (λ c. search tests) returns)

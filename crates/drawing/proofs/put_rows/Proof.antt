@@ -47,14 +47,4 @@ returns c = (omega (arith, (c .before .loop .inv .1), tabled-length _ (c .before
 pub put-rows-spec : {M : Type 1} → statement M
 put-rows-spec =
     tie.close
-    (tie.spec
-    Inv-loop
-    μ-loop
-    loop-holds
-    (λ c. search tests)
-    put-row-requires
-    (λ c. search tests)
-    (λ c. search tests)
-    loop-again
-    (λ c. search tests)
-    returns)
+    (tie.spec Inv-loop μ-loop loop-holds (λ c. search tests) put-row-requires (λ c. search tests) (λ c. search tests) loop-again (λ c. search tests) returns)

@@ -15,13 +15,5 @@ returns c = (omega (arith, (c .before .before .before .before .before .before .b
 pub put-start-spec : {M : Type 1} → statement M
 put-start-spec =
     tie.close
-    (tie.spec
-    (λ c κs. search tests)
-    (λ c κs. search tests)
-    (λ c. search tests)
-    sub-put-blanks
-    (λ c κs. search tests)
-    (λ c κs. search tests)
-    (λ c κs. search tests)
-    (λ c. search tests)
+    (tie.spec (λ c κs. search tests) (λ c κs. search tests) (λ c. search tests) sub-put-blanks (λ c κs. search tests) (λ c κs. search tests) (λ c κs. search tests) (λ c. search tests)
     returns)

@@ -22,12 +22,4 @@ returns c = (search tests, λ f e. table-put f _ e _ _ _ _ _ _ _ _ _ _ _ (c .bef
 pub put-table-spec : {M : Type 1} → statement M
 put-table-spec =
     tie.close
-    (tie.spec
-    put-classes-requires
-    (λ c. search tests)
-    (λ c κs. search tests)
-    put-heads-requires
-    (λ c κs. search tests)
-    put-rows-requires
-    (λ c. search tests)
-    returns)
+    (tie.spec put-classes-requires (λ c. search tests) (λ c κs. search tests) put-heads-requires (λ c κs. search tests) put-rows-requires (λ c. search tests) returns)

@@ -65,13 +65,4 @@ returns-2 c =
 pub fit-spec : {M : Type 1} → statement M
 fit-spec =
     tie.close
-    (tie.spec
-    (λ c κs. search needs)
-    (λ c κs. search needs)
-    (λ c κs. search needs)
-    returns
-    times-of-requires
-    plan-tables-requires
-    write-plan-requires
-    (λ c. search needs)
-    returns-2)
+    (tie.spec (λ c κs. search needs) (λ c κs. search needs) (λ c κs. search needs) returns times-of-requires plan-tables-requires write-plan-requires (λ c. search needs) returns-2)

@@ -83,27 +83,6 @@ returns c = λ g p told timed. limited-all g p _ _ _ _ (c .loop-test .left) (c .
 pub limits-of-spec : {M : Type 1} → statement M
 limits-of-spec =
     tie.close
-    (tie.spec
-    Inv-loop
-    μ-loop
-    loop-holds
-    (λ c. search needs)
-    cast-tail
-    (λ c. search needs)
-    cast-head
-    (λ c. search needs)
-    (λ c κs. search needs)
-    mul-late
-    element-copy-out-late
-    element-copy-out-late-2
-    mul-late-2
-    element-copy-out-late-3
-    late-requires
-    (λ c. search needs)
-    (λ c. search needs)
-    (λ c. search needs)
-    (λ c. search needs)
-    (λ c. search needs)
-    (λ c. search needs)
-    loop-again
-    returns)
+    (tie.spec Inv-loop μ-loop loop-holds (λ c. search needs) cast-tail (λ c. search needs) cast-head (λ c. search needs) (λ c κs. search needs) mul-late element-copy-out-late
+    element-copy-out-late-2 mul-late-2 element-copy-out-late-3 late-requires (λ c. search needs) (λ c. search needs) (λ c. search needs) (λ c. search needs) (λ c. search needs)
+    (λ c. search needs) loop-again returns)

@@ -63,16 +63,5 @@ returns-4 c f tabled same =
 pub plan-tables-spec : {M : Type 1} → statement M
 plan-tables-spec =
     tie.close
-    (tie.spec
-    (λ c κs. search needs)
-    (λ c κs. search needs)
-    returns
-    knot-of-requires
-    (λ c κs. search needs)
-    returns-2
-    (λ c κs. search needs)
-    (λ c κs. search needs)
-    returns-3
-    crowded-requires
-    (λ c κs. search needs)
-    returns-4)
+    (tie.spec (λ c κs. search needs) (λ c κs. search needs) returns knot-of-requires (λ c κs. search needs) returns-2 (λ c κs. search needs) (λ c κs. search needs) returns-3 crowded-requires
+    (λ c κs. search needs) returns-4)

@@ -50,16 +50,5 @@ returns c =
 pub busiest-class-spec : {M : Type 1} → statement M
 busiest-class-spec =
     tie.close
-    (tie.spec
-    Inv-loop
-    μ-loop
-    loop-holds
-    (λ c. search needs)
-    (λ c. search needs)
-    (λ c. search needs)
-    (λ c κs. search needs)
-    units-part-requires
-    (λ c. search needs)
-    (λ c. search needs)
-    loop-again
-    returns)
+    (tie.spec Inv-loop μ-loop loop-holds (λ c. search needs) (λ c. search needs) (λ c. search needs) (λ c κs. search needs) units-part-requires (λ c. search needs) (λ c. search needs)
+    loop-again returns)

@@ -33,17 +33,5 @@ returns c = λ e l. c .before .loop .inv .2 e (omega arith)
 pub costs-of-spec : {M : Type 1} → statement M
 costs-of-spec =
     tie.close
-    (tie.spec
-    Inv-loop
-    μ-loop
-    (λ c. search needs)
-    (λ c. search needs)
-    cast-tail
-    element-copy-out-wide
-    (λ c κs. search needs)
-    (λ c. search needs)
-    (λ c. search needs)
-    (λ c. search needs)
-    (λ c. search needs)
-    loop-again
-    returns)
+    (tie.spec Inv-loop μ-loop (λ c. search needs) (λ c. search needs) cast-tail element-copy-out-wide (λ c κs. search needs) (λ c. search needs) (λ c. search needs) (λ c. search needs)
+    (λ c. search needs) loop-again returns)

@@ -106,32 +106,6 @@ returns-3 c =
 pub issue-spec : {M : Type 1} → statement M
 issue-spec =
     tie.close
-    (tie.spec
-    late-edge-requires
-    (λ c. search needs)
-    (λ c. search needs)
-    returns
-    free-unit-requires
-    (λ c. search needs)
-    returns-2
-    value-of-requires
-    (λ c. search needs)
-    mul-place
-    add-place
-    mul-values
-    slice-write-values
-    (λ c. search needs)
-    add-finish
-    mul-finish
-    slice-write-finish
-    (λ c κs. search needs)
-    (λ c. search needs)
-    add-free
-    (λ c. search needs)
-    (λ c. search needs)
-    (λ c. search needs)
-    (λ c. search needs)
-    element-write-free
-    (λ c. search needs)
-    (λ c. search needs)
-    returns-3)
+    (tie.spec late-edge-requires (λ c. search needs) (λ c. search needs) returns free-unit-requires (λ c. search needs) returns-2 value-of-requires (λ c. search needs) mul-place add-place
+    mul-values slice-write-values (λ c. search needs) add-finish mul-finish slice-write-finish (λ c κs. search needs) (λ c. search needs) add-free (λ c. search needs) (λ c. search needs)
+    (λ c. search needs) (λ c. search needs) element-write-free (λ c. search needs) (λ c. search needs) returns-3)

@@ -43,15 +43,5 @@ returns-4 c = λ f lent.
 pub judge-tables-spec : {M : Type 1} → statement M
 judge-tables-spec =
     tie.close
-    (tie.spec
-    (λ c κs. search needs)
-    returns
-    knot-of-requires
-    returns-2
-    broken-edge-requires
-    (λ c. search needs)
-    (λ c κs. search needs)
-    returns-3
-    crowded-requires
-    (λ c κs. search needs)
+    (tie.spec (λ c κs. search needs) returns knot-of-requires returns-2 broken-edge-requires (λ c. search needs) (λ c κs. search needs) returns-3 crowded-requires (λ c κs. search needs)
     returns-4)

@@ -54,21 +54,5 @@ returns c = used-all _ _ _ _ _ _ (omega arith) (c .before .loop .inv .1)
 pub fill-busy-spec : {M : Type 1} → statement M
 fill-busy-spec =
     tie.close
-    (tie.spec
-    Inv-loop
-    μ-loop
-    loop-holds
-    (λ c. search needs)
-    (λ c. search needs)
-    cast-class
-    mul-class
-    array-copy-out-class
-    (λ c. search needs)
-    (λ c. search needs)
-    (λ c κs. search needs)
-    (λ c κs. search needs)
-    raise-requires
-    (λ c. search needs)
-    (λ c. search needs)
-    loop-again
-    returns)
+    (tie.spec Inv-loop μ-loop loop-holds (λ c. search needs) (λ c. search needs) cast-class mul-class array-copy-out-class (λ c. search needs) (λ c. search needs) (λ c κs. search needs)
+    (λ c κs. search needs) raise-requires (λ c. search needs) (λ c. search needs) loop-again returns)

@@ -260,55 +260,7 @@ returns-2 c =
 pub list-rule-spec : {M : Type 1} → statement M
 list-rule-spec =
     tie.close
-    (tie.spec
-    Inv-loop
-    μ-loop
-    Inv-nodes
-    μ-nodes
-    Inv-steps
-    μ-steps
-    weights-requires
-    order-of-requires
-    (λ c κs. search needs)
-    fill-busy-requires
-    steps-holds
-    unplaced-requires
-    waiting-requires
-    nodes-holds
-    cast-v
-    array-read-v
-    cast-v-2
-    mul-if2
-    array-read-if2
-    mul-if3
-    array-read-if3
-    add-i
-    (λ c. search needs)
-    nodes-again
-    element-copy-out-number
-    cast-class
-    mul-class
-    array-copy-out-class
-    (λ c κs. search needs)
-    (λ c κs. search needs)
-    add-q-end
-    loop-holds
-    (λ c κs. search needs)
-    array-read-if4
-    add-i-2
-    (λ c. search needs)
-    nodes-again-2
-    add-q
-    (λ c. search needs)
-    loop-again
-    mul-start
-    array-write-start
-    raise-requires
-    add-i-3
-    (λ c. search needs)
-    nodes-again-3
-    (λ c. search needs)
-    (λ c. search needs)
-    steps-again
-    returns
-    returns-2)
+    (tie.spec Inv-loop μ-loop Inv-nodes μ-nodes Inv-steps μ-steps weights-requires order-of-requires (λ c κs. search needs) fill-busy-requires steps-holds unplaced-requires waiting-requires
+    nodes-holds cast-v array-read-v cast-v-2 mul-if2 array-read-if2 mul-if3 array-read-if3 add-i (λ c. search needs) nodes-again element-copy-out-number cast-class mul-class
+    array-copy-out-class (λ c κs. search needs) (λ c κs. search needs) add-q-end loop-holds (λ c κs. search needs) array-read-if4 add-i-2 (λ c. search needs) nodes-again-2 add-q
+    (λ c. search needs) loop-again mul-start array-write-start raise-requires add-i-3 (λ c. search needs) nodes-again-3 (λ c. search needs) (λ c. search needs) steps-again returns returns-2)

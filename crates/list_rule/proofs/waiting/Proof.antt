@@ -76,27 +76,6 @@ returns c = waits-all _ _ _ _ _ _ _ _ _ _ (omega arith) (c .before .loop .inv .1
 pub waiting-spec : {M : Type 1} → statement M
 waiting-spec =
     tie.close
-    (tie.spec
-    Inv-loop
-    μ-loop
-    loop-holds
-    (λ c. search needs)
-    (λ c. search needs)
-    cast-tail
-    (λ c. search needs)
-    cast-head
-    (λ c. search needs)
-    element-copy-out-blocked-2
-    element-copy-out-blocked-3
-    mul-blocked
-    element-copy-out-blocked-4
-    element-copy-out-blocked-5
-    (λ c κs. search needs)
-    mul-waits
-    array-read-waits
-    add-waits
-    array-write-waits
-    (λ c. search needs)
-    (λ c. search needs)
-    loop-again
-    returns)
+    (tie.spec Inv-loop μ-loop loop-holds (λ c. search needs) (λ c. search needs) cast-tail (λ c. search needs) cast-head (λ c. search needs) element-copy-out-blocked-2
+    element-copy-out-blocked-3 mul-blocked element-copy-out-blocked-4 element-copy-out-blocked-5 (λ c κs. search needs) mul-waits array-read-waits add-waits array-write-waits
+    (λ c. search needs) (λ c. search needs) loop-again returns)

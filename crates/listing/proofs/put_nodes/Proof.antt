@@ -32,17 +32,5 @@ returns c = (search tests, nodes-whole _ _ _ _ _ _ _ _ _ (c .before .loop .inv .
 pub put-nodes-spec : {M : Type 1} → statement M
 put-nodes-spec =
     tie.close
-    (tie.spec
-    Inv-loop
-    μ-loop
-    loop-holds
-    (λ c. search tests)
-    (λ c. search tests)
-    (λ c. search tests)
-    (λ c. search tests)
-    (λ c κs. search tests)
-    (λ c. search tests)
-    (λ c. search tests)
-    loop-again
-    same-length
-    returns)
+    (tie.spec Inv-loop μ-loop loop-holds (λ c. search tests) (λ c. search tests) (λ c. search tests) (λ c. search tests) (λ c κs. search tests) (λ c. search tests) (λ c. search tests)
+    loop-again same-length returns)

@@ -14,12 +14,4 @@ returns c = (search needs, both _ _ _ _ _ _ _ _ (c .before .before .before .befo
 pub put-sizes-spec : {M : Type 1} → statement M
 put-sizes-spec =
     tie.close
-    (tie.spec
-    (λ c. search needs)
-    (λ c κs. search needs)
-    (λ c. search needs)
-    (λ c κs. search needs)
-    (λ c. search needs)
-    (λ c κs. search needs)
-    (λ c. search needs)
-    returns)
+    (tie.spec (λ c. search needs) (λ c κs. search needs) (λ c. search needs) (λ c κs. search needs) (λ c. search needs) (λ c κs. search needs) (λ c. search needs) returns)

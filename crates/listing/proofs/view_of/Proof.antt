@@ -56,15 +56,5 @@ returns-3 c =
 pub view-of-spec : {M : Type 1} → statement M
 view-of-spec =
     tie.close
-    (tie.spec
-    (λ c κs. search needs)
-    (λ c κs. search needs)
-    (λ c κs. search needs)
-    returns
-    times-of-requires
-    judge-tables-requires
-    (λ c κs. search needs)
-    (λ c κs. search needs)
-    returns-2
-    floor-tables-requires
-    returns-3)
+    (tie.spec (λ c κs. search needs) (λ c κs. search needs) (λ c κs. search needs) returns times-of-requires judge-tables-requires (λ c κs. search needs) (λ c κs. search needs) returns-2
+    floor-tables-requires returns-3)

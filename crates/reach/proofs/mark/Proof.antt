@@ -26,11 +26,4 @@ returns-3 c = met-new _ _ _ _ _ (c .before .before .before .pre .0) (omega arith
 pub mark-spec : {M : Type 1} → statement M
 mark-spec =
     tie.close
-    (tie.spec
-    returns
-    (λ c. search needs)
-    returns-2
-    (λ c. search needs)
-    element-write-queue
-    add-result
-    returns-3)
+    (tie.spec returns (λ c. search needs) returns-2 (λ c. search needs) element-write-queue add-result returns-3)

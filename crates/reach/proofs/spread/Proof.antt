@@ -69,18 +69,5 @@ returns c =
 pub spread-spec : {M : Type 1} → statement M
 spread-spec =
     tie.close
-    (tie.spec
-    Inv-loop
-    μ-loop
-    (λ c. search needs)
-    (λ c. search needs)
-    loop-holds
-    (λ c. search needs)
-    element-copy-out-mark
-    element-copy-out-mark-2
-    mark-requires
-    (λ c. search needs)
-    element-copy-out-e-2
-    loop-less
-    loop-again
-    returns)
+    (tie.spec Inv-loop μ-loop (λ c. search needs) (λ c. search needs) loop-holds (λ c. search needs) element-copy-out-mark element-copy-out-mark-2 mark-requires (λ c. search needs)
+    element-copy-out-e-2 loop-less loop-again returns)

@@ -51,20 +51,5 @@ returns c e l = c .before .loop .inv .2 e (omega arith)
 pub tights-of-spec : {M : Type 1} → statement M
 tights-of-spec =
     tie.close
-    (tie.spec
-    Inv-loop
-    μ-loop
-    loop-holds
-    (λ c. search needs)
-    cast-tail
-    (λ c. search needs)
-    cast-head
-    (λ c. search needs)
-    element-copy-out-tight-mark-2
-    element-copy-out-tight-mark-3
-    (λ c κs. search needs)
-    (λ c. search needs)
-    (λ c. search needs)
-    (λ c. search needs)
-    loop-again
-    returns)
+    (tie.spec Inv-loop μ-loop loop-holds (λ c. search needs) cast-tail (λ c. search needs) cast-head (λ c. search needs) element-copy-out-tight-mark-2 element-copy-out-tight-mark-3
+    (λ c κs. search needs) (λ c. search needs) (λ c. search needs) (λ c. search needs) loop-again returns)

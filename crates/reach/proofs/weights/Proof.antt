@@ -58,16 +58,5 @@ returns c g r told retimed = weights-all g r _ _ (omega (arith, told .all-nodes)
 pub weights-spec : {M : Type 1} → statement M
 weights-spec =
     tie.close
-    (tie.spec
-    Inv-loop
-    μ-loop
-    tights-of-requires
-    links-of-requires
-    loop-holds
-    weight-of-requires
-    (λ c. search needs)
-    (λ c. search needs)
-    (λ c. search needs)
-    (λ c. search needs)
-    loop-again
+    (tie.spec Inv-loop μ-loop tights-of-requires links-of-requires loop-holds weight-of-requires (λ c. search needs) (λ c. search needs) (λ c. search needs) (λ c. search needs) loop-again
     returns)

@@ -59,15 +59,5 @@ returns-2 c =
 pub read-prefix-spec : {M : Type 1} → statement M
 read-prefix-spec =
     tie.close
-    (tie.spec
-    (λ c κs. search needs)
-    (λ c κs. search needs)
-    nodes-requires
-    edges-requires
-    (λ c κs. search needs)
-    starts-requires
-    (λ c κs. search needs)
-    (λ c κs. search needs)
-    (λ c κs. search needs)
-    returns
-    returns-2)
+    (tie.spec (λ c κs. search needs) (λ c κs. search needs) nodes-requires edges-requires (λ c κs. search needs) starts-requires (λ c κs. search needs) (λ c κs. search needs)
+    (λ c κs. search needs) returns returns-2)

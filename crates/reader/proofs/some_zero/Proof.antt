@@ -31,13 +31,4 @@ returns-2 c = zero-none _ _ _ _ (c .loop-test .left) (c .before .loop .inv .1)
 pub some-zero-spec : {M : Type 1} → statement M
 some-zero-spec =
     tie.close
-    (tie.spec
-    Inv-loop
-    μ-loop
-    loop-holds
-    (λ c. search needs)
-    returns
-    (λ c. search needs)
-    (λ c. search needs)
-    loop-again
-    returns-2)
+    (tie.spec Inv-loop μ-loop loop-holds (λ c. search needs) returns (λ c. search needs) (λ c. search needs) loop-again returns-2)

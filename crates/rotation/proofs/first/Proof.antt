@@ -63,13 +63,4 @@ returns-2 c =
 pub first-spec : {M : Type 1} → statement M
 first-spec =
     tie.close
-    (tie.spec
-    (λ c κs. search needs)
-    (λ c κs. search needs)
-    (λ c κs. search needs)
-    returns
-    times-of-requires
-    first-plan-requires
-    write-plan-requires
-    (λ c. search needs)
-    returns-2)
+    (tie.spec (λ c κs. search needs) (λ c κs. search needs) (λ c κs. search needs) returns times-of-requires first-plan-requires write-plan-requires (λ c. search needs) returns-2)

@@ -39,10 +39,4 @@ returns-2 c f k =
 pub first-plan-spec : {M : Type 1} → statement M
 first-plan-spec =
     tie.close
-    (tie.spec
-    knot-of-requires
-    (λ c κs. search needs)
-    returns
-    first-times-requires
-    (λ c κs. search needs)
-    returns-2)
+    (tie.spec knot-of-requires (λ c κs. search needs) returns first-times-requires (λ c κs. search needs) returns-2)

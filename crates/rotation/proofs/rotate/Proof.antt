@@ -62,13 +62,4 @@ returns-2 c =
 pub rotate-spec : {M : Type 1} → statement M
 rotate-spec =
     tie.close
-    (tie.spec
-    (λ c κs. search needs)
-    (λ c κs. search needs)
-    (λ c κs. search needs)
-    returns
-    times-of-requires
-    rotate-plan-requires
-    write-plan-requires
-    (λ c. search needs)
-    returns-2)
+    (tie.spec (λ c κs. search needs) (λ c κs. search needs) (λ c κs. search needs) returns times-of-requires rotate-plan-requires write-plan-requires (λ c. search needs) returns-2)

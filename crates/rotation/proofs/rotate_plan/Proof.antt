@@ -75,16 +75,5 @@ returns-4 c f k =
 pub rotate-plan-spec : {M : Type 1} → statement M
 rotate-plan-spec =
     tie.close
-    (tie.spec
-    judge-tables-requires
-    (λ c κs. search needs)
-    (λ c κs. search needs)
-    returns
-    (λ c κs. search needs)
-    (λ c κs. search needs)
-    returns-2
-    rotate-times-requires
-    (λ c κs. search needs)
-    returns-3
-    (λ c κs. search needs)
-    returns-4)
+    (tie.spec judge-tables-requires (λ c κs. search needs) (λ c κs. search needs) returns (λ c κs. search needs) (λ c κs. search needs) returns-2 rotate-times-requires (λ c κs. search needs)
+    returns-3 (λ c κs. search needs) returns-4)

@@ -30,14 +30,5 @@ returns-2 c =
 pub rsk-rewrite-spec : {M : Type 1} → statement M
 rsk-rewrite-spec =
     tie.close
-    (tie.spec
-    (λ c κs. search needs)
-    (λ c κs. search needs)
-    (λ c κs. search needs)
-    (λ c κs. search needs)
-    returns
-    write-taken-requires
-    (λ c κs. search needs)
-    (λ c κs. search needs)
-    (λ c. search needs)
-    returns-2)
+    (tie.spec (λ c κs. search needs) (λ c κs. search needs) (λ c κs. search needs) (λ c κs. search needs) returns write-taken-requires (λ c κs. search needs) (λ c κs. search needs)
+    (λ c. search needs) returns-2)

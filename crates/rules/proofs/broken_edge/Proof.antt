@@ -84,35 +84,7 @@ returns-2 c = λ g p told timed. left-none _ _ _ _ (c .loop-test .left) (c .befo
 pub broken-edge-spec : {M : Type 1} → statement M
 broken-edge-spec =
     tie.close
-    (tie.spec
-    Inv-loop
-    μ-loop
-    loop-holds
-    (λ c. search needs)
-    (λ c. search needs)
-    (λ c. search needs)
-    cast-tail
-    (λ c. search needs)
-    cast-head
-    (λ c. search needs)
-    (λ c κs. search needs)
-    element-copy-out-wide-2
-    (λ c κs. search needs)
-    (λ c. search needs)
-    mul-later
-    element-copy-out-later
-    (λ c κs. search needs)
-    mul-later-2
-    element-copy-out-later-2
-    element-copy-out-wide-3
-    (λ c κs. search needs)
-    (λ c κs. search needs)
-    element-copy-out-wide-4
-    (λ c κs. search needs)
-    (λ c. search needs)
-    (λ c. search needs)
-    returns
-    (λ c. search needs)
-    (λ c. search needs)
-    loop-again
-    returns-2)
+    (tie.spec Inv-loop μ-loop loop-holds (λ c. search needs) (λ c. search needs) (λ c. search needs) cast-tail (λ c. search needs) cast-head (λ c. search needs) (λ c κs. search needs)
+    element-copy-out-wide-2 (λ c κs. search needs) (λ c. search needs) mul-later element-copy-out-later (λ c κs. search needs) mul-later-2 element-copy-out-later-2 element-copy-out-wide-3
+    (λ c κs. search needs) (λ c κs. search needs) element-copy-out-wide-4 (λ c κs. search needs) (λ c. search needs) (λ c. search needs) returns (λ c. search needs) (λ c. search needs)
+    loop-again returns-2)

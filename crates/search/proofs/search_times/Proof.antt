@@ -77,17 +77,5 @@ returns-3 c f k =
 pub search-times-spec : {M : Type 1} → statement M
 search-times-spec =
     tie.close
-    (tie.spec
-    Inv-loop
-    μ-loop
-    (λ c κs. search needs)
-    loop-holds
-    halve-requires
-    rotate-times-requires
-    (λ c κs. search needs)
-    (λ c. search needs)
-    loop-less
-    loop-again
-    returns
-    returns-2
+    (tie.spec Inv-loop μ-loop (λ c κs. search needs) loop-holds halve-requires rotate-times-requires (λ c κs. search needs) (λ c. search needs) loop-less loop-again returns returns-2
     returns-3)

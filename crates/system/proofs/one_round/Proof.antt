@@ -94,31 +94,6 @@ returns c =
 pub one-round-spec : {M : Type 1} → statement M
 one-round-spec =
     tie.close
-    (tie.spec
-    Inv-loop
-    μ-loop
-    loop-holds
-    (λ c. search needs)
-    (λ c. search needs)
-    cast-tail
-    (λ c. search needs)
-    cast-head
-    (λ c. search needs)
-    (λ c. search needs)
-    (λ c κs. search needs)
-    mul-have
-    element-copy-out-have
-    add-have
-    mul-want
-    element-copy-out-want
-    (λ c. search needs)
-    (λ c. search needs)
-    (λ c κs. search needs)
-    add-want
-    (λ c. search needs)
-    mul-values
-    element-write-values
-    (λ c. search needs)
-    (λ c. search needs)
-    loop-again
-    returns)
+    (tie.spec Inv-loop μ-loop loop-holds (λ c. search needs) (λ c. search needs) cast-tail (λ c. search needs) cast-head (λ c. search needs) (λ c. search needs) (λ c κs. search needs)
+    mul-have element-copy-out-have add-have mul-want element-copy-out-want (λ c. search needs) (λ c. search needs) (λ c κs. search needs) add-want (λ c. search needs) mul-values
+    element-write-values (λ c. search needs) (λ c. search needs) loop-again returns)

@@ -55,13 +55,4 @@ returns-2 c = settle-out _ _ _ _ (c .before .loop .inv .1) (omega arith)
 pub settle-spec : {M : Type 1} → statement M
 settle-spec =
     tie.close
-    (tie.spec
-    Inv-loop
-    μ-loop
-    loop-holds
-    one-round-requires
-    returns
-    (λ c. search needs)
-    (λ c. search needs)
-    loop-again
-    returns-2)
+    (tie.spec Inv-loop μ-loop loop-holds one-round-requires returns (λ c. search needs) (λ c. search needs) loop-again returns-2)

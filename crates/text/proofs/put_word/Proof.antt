@@ -31,14 +31,4 @@ returns c = word-whole _ _ _ _ _ _ (c .loop-test .left) (c .before .loop .inv .2
 pub put-word-spec : {M : Type 1} → statement M
 put-word-spec =
     tie.close
-    (tie.spec
-    Inv-loop
-    μ-loop
-    loop-holds
-    (λ c. search tests)
-    (λ c κs. search tests)
-    (λ c. search tests)
-    (λ c. search tests)
-    loop-again
-    same-length
-    returns)
+    (tie.spec Inv-loop μ-loop loop-holds (λ c. search tests) (λ c κs. search tests) (λ c. search tests) (λ c. search tests) loop-again same-length returns)

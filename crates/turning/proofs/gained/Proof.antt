@@ -40,17 +40,5 @@ returns c =
 pub gained-spec : {M : Type 1} → statement M
 gained-spec =
     tie.close
-    (tie.spec
-    Inv-loop
-    μ-loop
-    loop-holds
-    (λ c. search needs)
-    (λ c. search needs)
-    (λ c. search needs)
-    (λ c. search needs)
-    gain-requires
-    (λ c. search needs)
-    (λ c. search needs)
-    (λ c. search needs)
-    loop-again
-    returns)
+    (tie.spec Inv-loop μ-loop loop-holds (λ c. search needs) (λ c. search needs) (λ c. search needs) (λ c. search needs) gain-requires (λ c. search needs) (λ c. search needs)
+    (λ c. search needs) loop-again returns)

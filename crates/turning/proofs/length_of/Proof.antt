@@ -58,18 +58,5 @@ returns c =
 pub length-of-spec : {M : Type 1} → statement M
 length-of-spec =
     tie.close
-    (tie.spec
-    Inv-loop
-    μ-loop
-    loop-holds
-    (λ c. search needs)
-    (λ c. search needs)
-    (λ c. search needs)
-    (λ c. search needs)
-    cast-end
-    add-end
-    sub-end
-    (λ c. search needs)
-    (λ c. search needs)
-    loop-again
-    returns)
+    (tie.spec Inv-loop μ-loop loop-holds (λ c. search needs) (λ c. search needs) (λ c. search needs) (λ c. search needs) cast-end add-end sub-end (λ c. search needs) (λ c. search needs)
+    loop-again returns)

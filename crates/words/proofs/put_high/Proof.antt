@@ -13,11 +13,4 @@ returns c = (search needs, both _ _ _ _ _ _ _ _ (c .before .before .before .befo
 pub put-high-spec : {M : Type 1} → statement M
 put-high-spec =
     tie.close
-    (tie.spec
-    (λ c κs. search needs)
-    (λ c κs. search needs)
-    (λ c κs. search needs)
-    (λ c κs. search needs)
-    (λ c κs. search needs)
-    (λ c. search needs)
-    returns)
+    (tie.spec (λ c κs. search needs) (λ c κs. search needs) (λ c κs. search needs) (λ c κs. search needs) (λ c κs. search needs) (λ c. search needs) returns)

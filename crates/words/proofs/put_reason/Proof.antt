@@ -18,14 +18,5 @@ returns-3 c = (omega arith, rule-reason _ _ _ _ _ _ _ (omega arith) (rw (c .befo
 pub put-reason-spec : {M : Type 1} → statement M
 put-reason-spec =
     tie.close
-    (tie.spec
-    (λ c. search needs)
-    (λ c κs. search needs)
-    (λ c. search needs)
-    returns
-    (λ c κs. search needs)
-    (λ c. search needs)
-    returns-2
-    (λ c κs. search needs)
-    (λ c. search needs)
+    (tie.spec (λ c. search needs) (λ c κs. search needs) (λ c. search needs) returns (λ c κs. search needs) (λ c. search needs) returns-2 (λ c κs. search needs) (λ c. search needs)
     returns-3)

@@ -13,9 +13,4 @@ returns c = (omega arith, c .before .before .put-amid .ensures .1)
 pub put-room-spec : {M : Type 1} → statement M
 put-room-spec =
     tie.close
-    (tie.spec
-    (λ c. search needs)
-    (λ c. search needs)
-    (λ c κs. search needs)
-    (λ c. search needs)
-    returns)
+    (tie.spec (λ c. search needs) (λ c. search needs) (λ c κs. search needs) (λ c. search needs) returns)

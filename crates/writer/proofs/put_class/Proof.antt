@@ -14,11 +14,4 @@ returns c = (search needs, record { is = simp unary-clauses; ends = refl })
 pub put-class-spec : {M : Type 1} → statement M
 put-class-spec =
     tie.close
-    (tie.spec
-    (λ c. search needs)
-    (λ c. search needs)
-    (λ c. search needs)
-    (λ c. search needs)
-    (λ c. search needs)
-    (λ c. search needs)
-    returns)
+    (tie.spec (λ c. search needs) (λ c. search needs) (λ c. search needs) (λ c. search needs) (λ c. search needs) (λ c. search needs) returns)

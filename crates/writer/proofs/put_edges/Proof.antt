@@ -33,15 +33,4 @@ returns c =
 pub put-edges-spec : {M : Type 1} → statement M
 put-edges-spec =
     tie.close
-    (tie.spec
-    Inv-loop
-    μ-loop
-    loop-holds
-    (λ c. search tests)
-    (λ c. search tests)
-    (λ c. search tests)
-    (λ c κs. search tests)
-    (λ c. search tests)
-    (λ c. search tests)
-    loop-again
-    returns)
+    (tie.spec Inv-loop μ-loop loop-holds (λ c. search tests) (λ c. search tests) (λ c. search tests) (λ c κs. search tests) (λ c. search tests) (λ c. search tests) loop-again returns)

@@ -34,15 +34,4 @@ returns c =
 pub put-starts-spec : {M : Type 1} → statement M
 put-starts-spec =
     tie.close
-    (tie.spec
-    Inv-loop
-    μ-loop
-    loop-holds
-    (λ c. search tests)
-    (λ c. search tests)
-    (λ c. search tests)
-    (λ c κs. search tests)
-    (λ c. search tests)
-    (λ c. search tests)
-    loop-again
-    returns)
+    (tie.spec Inv-loop μ-loop loop-holds (λ c. search tests) (λ c. search tests) (λ c. search tests) (λ c κs. search tests) (λ c. search tests) (λ c. search tests) loop-again returns)

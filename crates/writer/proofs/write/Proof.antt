@@ -39,13 +39,4 @@ returns c =
 pub write-spec : {M : Type 1} → statement M
 write-spec =
     tie.close
-    (tie.spec
-    (λ c κs. search needs)
-    array-share-prefix-buffer
-    slice-aggregate-bytes
-    (λ c κs. search needs)
-    (λ c κs. search needs)
-    returns
-    put-requires
-    (λ c. search needs)
-    returns-2)
+    (tie.spec (λ c κs. search needs) array-share-prefix-buffer slice-aggregate-bytes (λ c κs. search needs) (λ c κs. search needs) returns put-requires (λ c. search needs) returns-2)

@@ -29,10 +29,4 @@ returns c =
 pub write-taken-spec : {M : Type 1} → statement M
 write-taken-spec =
     tie.close
-    (tie.spec
-    (λ c κs. search needs)
-    array-share-prefix-buffer
-    slice-aggregate-put
-    put-requires
-    (λ c. search needs)
-    returns)
+    (tie.spec (λ c κs. search needs) array-share-prefix-buffer slice-aggregate-put put-requires (λ c. search needs) returns)

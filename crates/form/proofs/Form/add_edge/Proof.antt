@@ -19,11 +19,4 @@ returns-2 c = simp (lt-ltb (c .before .before .before .args .t1 .header .edges) 
 pub add-edge-spec : {M : Type 1} → statement M
 add-edge-spec =
     tie.close
-    (tie.spec
-    returns
-    (λ c. search needs)
-    (λ c. search needs)
-    (λ c. search needs)
-    (λ c. search needs)
-    (λ c. search needs)
-    returns-2)
+    (tie.spec returns (λ c. search needs) (λ c. search needs) (λ c. search needs) (λ c. search needs) (λ c. search needs) returns-2)

@@ -13,13 +13,5 @@ slice-aggregate-repeat-from c = sym (length-take-le _ _ (omega arith))
 pub repeat-named-spec : {M : Type 1} → statement M
 repeat-named-spec =
     tie.close
-    (tie.spec
-    (λ c κs. search needs)
-    (λ c. search needs)
-    (λ c κs. search needs)
-    (λ c κs. search needs)
-    (λ c κs. search needs)
-    (λ c. search needs)
-    slice-aggregate-repeat-from
-    (λ c κs. search needs)
-    (λ c. search needs))
+    (tie.spec (λ c κs. search needs) (λ c. search needs) (λ c κs. search needs) (λ c κs. search needs) (λ c κs. search needs) (λ c. search needs) slice-aggregate-repeat-from
+    (λ c κs. search needs) (λ c. search needs))
