@@ -47,4 +47,5 @@ def main():
         print(f"{name}: " + ", ".join(line))
 
 
-main()
+if __name__ == "__main__":
+    main()
