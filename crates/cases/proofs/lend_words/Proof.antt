@@ -36,13 +36,16 @@ slice-aggregate-fill c = sym (length-take-le _ _ (search needs))
 -- src/main.rt:225:31
 array-share-prefix-starts : tie.Need-array-share-prefix-starts
 array-share-prefix-starts c =
-    let l = length-front (c .before .before .before .start-table .result) (c .before .fill .last .1 .0) (c .before .before .before .before .before .two2 .result) (c .before .fill .kept .1 .0) in
+    let at-start-table = c .before .before .before in
+    let l = length-front (at-start-table .start-table .result) (c .before .fill .last .1 .0) (at-start-table .before .before .two2 .result) (c .before .fill .kept .1 .0) in
     omega arith
 
 -- src/main.rt:225:31
 slice-aggregate-lend-values : tie.Need-slice-aggregate-lend-values
 slice-aggregate-lend-values c =
-    let l = length-front (c .before .before .before .before .start-table .result) (c .before .before .fill .last .1 .0) (c .before .before .before .before .before .before .two2 .result) (c .before .before .fill .kept .1 .0) in
+    let at-fill = c .before .before in
+    let at-start-table = at-fill .before .before in
+    let l = length-front (at-start-table .start-table .result) (at-fill .fill .last .1 .0) (at-start-table .before .before .two2 .result) (at-fill .fill .kept .1 .0) in
     sym (length-take-le _ _ (omega arith))
 
 -- src/main.rt:225:5

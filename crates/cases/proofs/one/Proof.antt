@@ -36,13 +36,17 @@ slice-aggregate-read-full-2 c = sym (length-take-le _ _ (search needs))
 -- src/main.rt:250:17
 array-share-prefix-bytes : tie.Need-array-share-prefix-bytes
 array-share-prefix-bytes c =
-    let l = length-front (c .before .before .before .before .empty .result) (c .before .before .read-full2 .last .1 .0) (c .before .before .before .before .before .before .before .two .result) (c .before .before .read-full2 .kept .1 .0) in
+    let at-read-full2 = c .before .before in
+    let at-empty = at-read-full2 .before .before in
+    let l = length-front (at-empty .empty .result) (at-read-full2 .read-full2 .last .1 .0) (at-empty .before .before .before .two .result) (at-read-full2 .read-full2 .kept .1 .0) in
     omega arith
 
 -- src/main.rt:250:17
 slice-aggregate-lend : tie.Need-slice-aggregate-lend
 slice-aggregate-lend c =
-    let l = length-front (c .before .before .before .before .before .empty .result) (c .before .before .before .read-full2 .last .1 .0) (c .before .before .before .before .before .before .before .before .two .result) (c .before .before .before .read-full2 .kept .1 .0) in
+    let at-read-full2 = c .before .before .before in
+    let at-empty = at-read-full2 .before .before in
+    let l = length-front (at-empty .empty .result) (at-read-full2 .read-full2 .last .1 .0) (at-empty .before .before .before .two .result) (at-read-full2 .read-full2 .kept .1 .0) in
     sym (length-take-le _ _ (omega arith))
 
 -- src/main.rt:250:5

@@ -23,10 +23,14 @@ loop-holds : tie.Need-loop-holds Inv-loop μ-loop
 loop-holds c = (omega arith, omega arith, some-digits _ (λ e. absurd (omega arith)))
 
 returns-2 : tie.Need-returns-2 Inv-loop μ-loop
-returns-2 c = number-none _ _ _ (c .before .before .before .before .loop .inv .2) (c .before .before .before .loop-test .taken) _ (c .before .longer .ensures .1) (c .if2 .taken)
+returns-2 c =
+    let at-loop-test = c .before .before .before in
+    number-none _ _ _ (at-loop-test .before .loop .inv .2) (at-loop-test .loop-test .taken) _ (c .before .longer .ensures .1) (c .if2 .taken)
 
 loop-again : tie.Need-loop-again Inv-loop μ-loop
-loop-again c = (search needs, omega arith, number-more _ _ _ (c .before .before .before .before .loop .inv .2) (c .before .before .before .loop-test .taken) _ (c .before .longer .ensures .1) (c .if2 .left))
+loop-again c =
+    let at-loop-test = c .before .before .before in
+    (search needs, omega arith, number-more _ _ _ (at-loop-test .before .loop .inv .2) (at-loop-test .loop-test .taken) _ (c .before .longer .ensures .1) (c .if2 .left))
 
 returns-3 : tie.Need-returns-3 Inv-loop μ-loop
 returns-3 c = number-whole _ _ (c .before .loop .i) (c .before .loop .inv .2) (omega arith)

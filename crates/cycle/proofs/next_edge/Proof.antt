@@ -45,22 +45,28 @@ element-copy-out-gives : tie.Need-element-copy-out-gives Inv-loop μ-loop
 element-copy-out-gives c = omega (arith, ahead (c .before .before .before))
 
 gives-requires : tie.Need-gives-requires Inv-loop μ-loop
-gives-requires c κs = let s = c .before .before .before .before .before .before .before .before in (s .pre .1 _, s .pre .2)
+gives-requires c κs =
+    let at-if1 = c .before .before .before in
+    let at-loop-test = at-if1 .before .before .before in
+    let s = at-loop-test .before .before in (s .pre .1 _, s .pre .2)
 
 returns : tie.Need-returns Inv-loop μ-loop
 unfolding systemOf
 returns c =
-    let g = c .before .before .before .before .before in
+    let at-gives = c .before in
+    let at-gives-arg = at-gives .before .before .before in
+    let g = at-gives-arg .before in
     record {
       within = omega arith;
       first = g .before .before .before .before .loop .inv .1;
-      found = λ l. (g .if1 .taken, leb-true _ _ (sym (c .before .gives .ensures .0) ∙ c .if2 .taken), c .before .gives .ensures .1 (c .if2 .taken));
+      found = λ l. (g .if1 .taken, leb-true _ _ (sym (at-gives .gives .ensures .0) ∙ c .if2 .taken), at-gives .gives .ensures .1 (c .if2 .taken));
     }
 
 loop-again : tie.Need-loop-again Inv-loop μ-loop
 unfolding systemOf
 loop-again c =
-    let i = c .before .before .before .before in (
+    let at-loop-test = c .before .before .before in
+    let i = at-loop-test .before in (
       omega arith,
       below-more _ _ (i .loop .inv .1) (⊎-elim (λ w t g. not-le-of-lt (leb-false _ _ (sym (w .4 .ensures .0) ∙ w .5 .left)) g) (λ w t g. w .left t) (c .if1 .came)),
     )

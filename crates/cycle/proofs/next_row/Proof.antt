@@ -48,22 +48,33 @@ element-copy-out-carried : tie.Need-element-copy-out-carried Inv-loop μ-loop
 element-copy-out-carried c = omega (arith, ends (c .before .before))
 
 carried-requires : tie.Need-carried-requires Inv-loop μ-loop
-carried-requires c κs = c .before .before .before .before .before .before .before .pre .1 _
+carried-requires c κs =
+    let at-v = c .before .before .before in
+    let at-loop = at-v .before .before .before in
+    at-loop .before .pre .1 _
 
 mul-next : tie.Need-mul-next Inv-loop μ-loop
-mul-next c = omega (arith, ends (c .before .before .before .before .before .before .before))
+mul-next c =
+    let at-carried-arg2 = c .before .before .before in
+    let at-u = at-carried-arg2 .before .before .before in
+    omega (arith, ends (at-u .before))
 
 array-write-next : tie.Need-array-write-next Inv-loop μ-loop
-array-write-next c = omega (arith, ends (c .before .before .before .before .before .before .before))
+array-write-next c =
+    let at-carried-arg2 = c .before .before .before in
+    let at-u = at-carried-arg2 .before .before .before in
+    omega (arith, ends (at-u .before))
 
 loop-again : tie.Need-loop-again Inv-loop μ-loop
 unfolding systemOf
 loop-again c =
-    let i = c .before .before .before .before .before .before .before in
+    let at-carried = c .before in
+    let at-carried-arg = at-carried .before .before .before in
+    let i = at-carried-arg .before .before .before in
     let a = i .before .before .args in (
       omega arith,
       simp length-set (omega arith),
-      rw (c .larger .ensures, c .before .carried .ensures .0)
+      rw (c .larger .ensures, at-carried .carried .ensures .0)
           (carried-more (wide (a .edges) (a .tails .now) (a .heads .now) (a .gains .now) (a .costs .now)) (i .before .loop .e) (a .row .now) (i .before .loop .next) (omega (arith, ends i)) (omega arith) (i .before .loop .inv .2)),
     )
 

@@ -30,7 +30,8 @@ times-of-requires c κs =
 
 plan-tables-requires : tie.Need-plan-tables-requires
 plan-tables-requires c κs =
-    let t = c .before .before .before .before in
+    let at-read2 = c .before .before .before in
+    let t = at-read2 .before in
     let i = t .before .before in
     let r = i .before .before in
     let a = r .before .before .before .args in

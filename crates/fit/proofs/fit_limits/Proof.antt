@@ -16,15 +16,19 @@ returns c g p d = tables-unfit g p _ _ _ _ _ _ d _ (c .before .before .solve .en
 
 top-of-requires : tie.Need-top-of-requires
 top-of-requires c κs =
-    let begun = c .before .before .before .before .before .before .before .before in
+    let at-cycle = c .before .before .before in
+    let at-solve-arg = at-cycle .before .before .before in
+    let begun = at-solve-arg .before .before in
     tables-bounds _ _ _ _ _ _ _ _ (begun .pre .1 .1) .1
 
 turned-requires : tie.Need-turned-requires
 turned-requires c κs =
-    let u = c .before .before .before .before .before .before .before in
+    let at-top-of = c .before .before in
+    let at-if1 = at-top-of .before .before .before in
+    let u = at-if1 .before .before in
     let d = u .before .before .before .before .pre .1 .1 in
-    let h = c .before .before .top-of .ensures in
-    let settled = not-false _ (c .before .before .before .before .before .if1 .left) in (
+    let h = at-top-of .top-of .ensures in
+    let settled = not-false _ (at-if1 .if1 .left) in (
       (
         tables-bounds _ _ _ _ _ _ _ _ d .1,
         tables-top _ _ _ _ _ _ _ _ d _ (u .solve .ensures) settled _ h,
@@ -34,8 +38,10 @@ turned-requires c κs =
 
 returns-2 : tie.Need-returns-2
 returns-2 c g p d =
-    let u = c .before .before .before .before .before .before .before .before in
-    tables-fit g p _ _ _ _ _ _ d _ (u .solve .ensures) (not-false _ (c .before .before .before .before .before .before .if1 .left)) _ (c .before .before .before .top-of .ensures) _ (c .turned .ensures)
+    let at-top-of = c .before .before .before in
+    let at-if1 = at-top-of .before .before .before in
+    let u = at-if1 .before .before in
+    tables-fit g p _ _ _ _ _ _ d _ (u .solve .ensures) (not-false _ (at-if1 .if1 .left)) _ (at-top-of .top-of .ensures) _ (c .turned .ensures)
 
 pub fit-limits-spec : {M : Type 1} → statement M
 fit-limits-spec =

@@ -40,23 +40,35 @@ cast-head : tie.Need-cast-head Inv-loop μ-loop
 cast-head c = omega (arith, head-in (c .before .before))
 
 mul-late : tie.Need-mul-late Inv-loop μ-loop
-mul-late c = omega (arith, tail-in (c .before .before .before .before))
+mul-late c =
+    let at-tail = c .before .before .before in
+    omega (arith, tail-in (at-tail .before))
 
 element-copy-out-late : tie.Need-element-copy-out-late Inv-loop μ-loop
-element-copy-out-late c = omega (arith, tail-in (c .before .before .before .before))
+element-copy-out-late c =
+    let at-tail = c .before .before .before in
+    omega (arith, tail-in (at-tail .before))
 
 element-copy-out-late-2 : tie.Need-element-copy-out-late-2 Inv-loop μ-loop
-element-copy-out-late-2 c = omega (arith, tail-in (c .before .before .before .before .before))
+element-copy-out-late-2 c =
+    let at-head = c .before .before .before in
+    omega (arith, tail-in (at-head .before .before))
 
 mul-late-2 : tie.Need-mul-late-2 Inv-loop μ-loop
-mul-late-2 c = omega (arith, head-in (c .before .before .before .before .before .before))
+mul-late-2 c =
+    let at-wide-arg = c .before .before .before in
+    omega (arith, head-in (at-wide-arg .before .before .before))
 
 element-copy-out-late-3 : tie.Need-element-copy-out-late-3 Inv-loop μ-loop
-element-copy-out-late-3 c = omega (arith, head-in (c .before .before .before .before .before .before))
+element-copy-out-late-3 c =
+    let at-wide-arg = c .before .before .before in
+    omega (arith, head-in (at-wide-arg .before .before .before))
 
 late-requires : tie.Need-late-requires Inv-loop μ-loop
 late-requires c κs =
-    let l = c .before .before .before .before .before .before .before .before in
+    let at-wide = c .before .before .before in
+    let at-tail = at-wide .before .before .before in
+    let l = at-tail .before .before in
     let b = l .before in
     let p = b .pre in
     let u = p .1 _ (p .0 .tail-in (l .loop .e) (omega arith)) in
@@ -65,14 +77,17 @@ late-requires c κs =
 
 loop-again : tie.Need-loop-again Inv-loop μ-loop
 loop-again c =
-    let l = c .before .before .before .before .before .before .before .before .before .loop in
-    let b = c .before .before .before .before .before .before .before .before .before .before in
+    let at-late-arg = c .before .before .before in
+    let at-wide = at-late-arg .before in
+    let at-tail = at-wide .before .before .before in
+    let l = at-tail .before .before .loop in
+    let b = at-tail .before .before .before in
     let e-in : l .e < b .args .edges = omega arith in (
       search needs,
       search needs,
       search needs,
       λ g p told timed. limited-more g p (l .e) _ _ _ _ (omega arith) (omega arith)
-          (gain-is g p _ _ _ _ _ (b .pre .0) told timed (l .e) _ e-in (c .before .before .before .before .wide .ensures .0))
+          (gain-is g p _ _ _ _ _ (b .pre .0) told timed (l .e) _ e-in (at-wide .wide .ensures .0))
           (cost-is g p _ _ _ _ _ (b .pre .0) told timed (l .e) _ e-in (c .late .ensures))
           (l .inv .3 g p told timed),
     )

@@ -11,7 +11,10 @@ solve-requires : tie.Need-solve-requires
 solve-requires c κs = (edged-bounds _ _ _ _ _ (c .before .before .pre .0), held-joined _ _ _ _ _ (c .before .before .pre .0) 0 _ _)
 
 returns : tie.Need-returns
-returns c g told costed = held-breaks _ _ _ _ _ (c .before .before .before .before .pre .0) (c .before .before .before .before .args .length) _ _ (c .before .before .before .gains-of .ensures) g told costed _ (c .before .solve .ensures)
+returns c g told costed =
+    let at-gains-of = c .before .before .before in
+    let start = at-gains-of .before in
+    held-breaks _ _ _ _ _ (start .pre .0) (start .args .length) _ _ (at-gains-of .gains-of .ensures) g told costed _ (c .before .solve .ensures)
 
 pub breaking-cycle-spec : {M : Type 1} → statement M
 breaking-cycle-spec = tie.close (tie.spec gains-of-requires solve-requires returns)

@@ -22,15 +22,19 @@ loop-holds : tie.Need-loop-holds Inv-loop μ-loop
 loop-holds c = (search needs, λ g p timed. busy-none g, omega arith)
 
 units-part-requires : tie.Need-units-part-requires Inv-loop μ-loop
-units-part-requires c κs = (c .before .before .before .before .before .before .pre .class (c .before .before .before .before .before .loop .c) (c .before .before .before .before .loop-test .taken), c .nodes-on .ensures .1)
+units-part-requires c κs =
+    let at-class = c .before .before .before in
+    (at-class .before .before .before .pre .class (at-class .before .before .loop .c) (at-class .before .loop-test .taken), c .nodes-on .ensures .1)
 
 loop-again : tie.Need-loop-again Inv-loop μ-loop
 loop-again c =
-    let l = c .before .before .before .before .before .before .before in
+    let at-nodes-on = c .before .before in
+    let at-class = at-nodes-on .before .before .before in
+    let l = at-class .before .before in
     let t = l .before .args .t1 in (
       search needs,
       λ g p timed.
-          let is = part-is g p t timed (l .loop .c) _ _ (c .before .before .nodes-on .ensures .0) (c .before .units-part .ensures .0) in
+          let is = part-is g p t timed (l .loop .c) _ _ (at-nodes-on .nodes-on .ensures .0) (c .before .units-part .ensures .0) in
           ⊎-elim
           (λ w. rw (w .1, w .2) (busy-here g (l .loop .c) _ _ _ is (l .loop .inv .1 g p timed) (omega (arith, w .0 .taken))))
           (λ w. rw (w .1, w .2) (busy-past g (l .loop .c) _ _ _ is (l .loop .inv .1 g p timed) (omega (arith, w .0 .left))))

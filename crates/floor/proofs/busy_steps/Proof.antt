@@ -12,8 +12,9 @@ mul-result c = omega (arith, product (c .before .wide .result) (c .wide2 .result
 
 returns : tie.Need-returns
 returns c =
+    let at-if1 = c .before .before in
     let p = product (c .before .wide .result) (c .wide2 .result) 64 8 (omega (arith, c .before .wide .ensures .0)) (omega (arith, c .wide2 .ensures .0)) in
-    (rw (c .before .wide .ensures .0, c .wide2 .ensures .0, hold-plain (c .before .before .before .before .args .class) (omega (arith, c .before .before .if1 .taken))), omega arith)
+    (rw (c .before .wide .ensures .0, c .wide2 .ensures .0, hold-plain (at-if1 .before .before .args .class) (omega (arith, at-if1 .if1 .taken))), omega arith)
 
 returns-2 : tie.Need-returns-2
 returns-2 c = (rw (c .wide3 .ensures .0, hold-piped (c .before .before .before .args .class) (c .before .if1 .left), mul-one), omega (arith, c .wide3 .ensures .0))

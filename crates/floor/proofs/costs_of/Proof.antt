@@ -23,8 +23,9 @@ element-copy-out-wide c = omega (arith, c .before .before .before .pre .1 (c .be
 
 loop-again : tie.Need-loop-again Inv-loop μ-loop
 loop-again c =
-    let l = c .before .before .before .before .loop in
-    let a = c .before .before .before .before .before .args in
+    let at-loop-test = c .before .before .before in
+    let l = at-loop-test .before .loop in
+    let a = at-loop-test .before .before .args in
     (search needs, search needs, filled-more (λ k. getD (a .latency .now) (getD (a .from .now) k 0) 0) (l .costs) (l .e) _ (omega arith) (c .wide .ensures .0) (l .inv .2))
 
 returns : tie.Need-returns Inv-loop μ-loop

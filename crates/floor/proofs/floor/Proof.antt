@@ -23,14 +23,20 @@ times-of-requires c κs =
 
 floor-tables-requires : tie.Need-floor-tables-requires
 floor-tables-requires c κs =
-    let r = c .before .before .before .before .before .before .before .before in
-    (r .read .result .form, lent-form _ _ (read-good (r .before .before .args .«record» .now) _ (r .read .ensures) (λ i. omega (arith, r .before .shared-slice-known .given i)) (sym (c .before .before .before .before .before .before .before .is-fine .ensures) ∙ not-false _ (c .before .before .before .before .before .before .if1 .left))) (c .before .before .before .before .times-of .ensures))
+    let at-read2 = c .before .before .before in
+    let at-if1 = at-read2 .before .before .before in
+    let r = at-if1 .before .before in
+    (r .read .result .form, lent-form _ _ (read-good (r .before .before .args .«record» .now) _ (r .read .ensures) (λ i. omega (arith, r .before .shared-slice-known .given i)) (sym (at-if1 .before .is-fine .ensures) ∙ not-false _ (at-if1 .if1 .left))) (at-read2 .before .times-of .ensures))
 
 returns-2 : tie.Need-returns-2
 returns-2 c =
-    let r = c .before .before .before .before .before .before .before .before .before in
-    record-floored _ _ (r .read .ensures) _ (sym (c .before .before .before .before .before .before .before .before .is-fine .ensures) ∙ not-false _ (c .before .before .before .before .before .before .before .if1 .left))
-    (c .floor-tables .ensures _ (lent-form _ _ (read-good (r .before .before .args .«record» .now) _ (r .read .ensures) (λ i. omega (arith, r .before .shared-slice-known .given i)) (sym (c .before .before .before .before .before .before .before .before .is-fine .ensures) ∙ not-false _ (c .before .before .before .before .before .before .before .if1 .left))) (c .before .before .before .before .before .times-of .ensures)))
+    let at-floor-tables-arg = c .before .before .before in
+    let at-times-of = at-floor-tables-arg .before .before in
+    let at-if1 = at-times-of .before .before in
+    let at-is-fine = at-if1 .before in
+    let r = at-is-fine .before in
+    record-floored _ _ (r .read .ensures) _ (sym (at-is-fine .is-fine .ensures) ∙ not-false _ (at-if1 .if1 .left))
+    (c .floor-tables .ensures _ (lent-form _ _ (read-good (r .before .before .args .«record» .now) _ (r .read .ensures) (λ i. omega (arith, r .before .shared-slice-known .given i)) (sym (at-is-fine .is-fine .ensures) ∙ not-false _ (at-if1 .if1 .left))) (at-times-of .times-of .ensures)))
 
 pub floor-spec : {M : Type 1} → statement M
 floor-spec =

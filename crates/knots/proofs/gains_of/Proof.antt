@@ -18,8 +18,9 @@ abbrev μ-loop : tie.MeasureT-loop
 
 loop-again : tie.Need-loop-again Inv-loop μ-loop
 loop-again c =
-    let l = c .before .before .before .loop in
-    (search needs, search needs, filled-more (λ k. 64 * getD (c .before .before .before .before .args .delays .now) k 0) (l .gains) (l .e) _ (omega arith) (omega (arith, c .wide .ensures .0)) (l .inv .2))
+    let at-loop = c .before .before .before in
+    let l = at-loop .loop in
+    (search needs, search needs, filled-more (λ k. 64 * getD (at-loop .before .args .delays .now) k 0) (l .gains) (l .e) _ (omega arith) (omega (arith, c .wide .ensures .0)) (l .inv .2))
 
 returns : tie.Need-returns Inv-loop μ-loop
 returns c e l = c .before .loop .inv .2 e (omega arith)

@@ -14,9 +14,10 @@ solve-requires c κs =
 
 returns : tie.Need-returns
 returns c g told =
-    let gained = c .before .before .before .before .before in
+    let at-solve = c .before .before in
+    let gained = at-solve .before .before .before in
     let a = gained .before .args in
-    ranks-found _ _ (a .from .now) (a .to .now) (a .delays .now) (gained .before .pre) _ (gained .gains-of .ensures) g told _ (c .before .before .solve .ensures)
+    ranks-found _ _ (a .from .now) (a .to .now) (a .delays .now) (gained .before .pre) _ (gained .gains-of .ensures) g told _ (at-solve .solve .ensures)
 
 pub ranked-spec : {M : Type 1} → statement M
 ranked-spec = tie.close (tie.spec (λ c κs. search needs) solve-requires returns)

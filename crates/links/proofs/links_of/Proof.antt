@@ -21,7 +21,9 @@ loop-holds c =
     (omega arith, linked-none _ _ _ _ (f .0) (c .next-blank .ensures .0) (f .1) (c .next-blank .ensures .1))
 
 key-in : (c : tie.After-key Inv-loop μ-loop) → getD (c .before .before .before .before .before .args .keys .now) (c .before .before .loop .e - 1) 0 < 64
-key-in c = c .before .before .before .before .before .pre .1 (c .before .before .loop .e - 1) (omega arith)
+key-in c =
+    let at-loop = c .before .before in
+    at-loop .before .before .before .pre .1 (at-loop .loop .e - 1) (omega arith)
 
 cast-key : tie.Need-cast-key Inv-loop μ-loop
 cast-key c = omega (arith, key-in c)
@@ -46,8 +48,9 @@ array-write-first c = key-in c
 
 loop-again : tie.Need-loop-again Inv-loop μ-loop
 loop-again c =
-    let l = c .before .before .loop in
-    let a = c .before .before .before .before .before .args in
+    let at-loop = c .before .before in
+    let l = at-loop .loop in
+    let a = at-loop .before .before .before .args in
     let down : l .e ≡ l .e - 1 + 1 = omega arith in (
       omega arith,
       linked-more (λ d. getD (a .keys .now) d 0) (a .edges) (l .e - 1) (l .first) (l .next) (omega arith) (omega arith) (key-in c)
@@ -56,8 +59,9 @@ loop-again c =
 
 returns : tie.Need-returns Inv-loop μ-loop
 returns c =
-    let l = c .before .loop in
-    let a = c .before .before .before .before .args in
+    let at-loop = c .before in
+    let l = at-loop .loop in
+    let a = at-loop .before .before .before .args in
     let end : l .e ≡ 0 = omega arith in
     linked-all (λ d. getD (a .keys .now) d 0) (a .edges) (l .first) (l .next)
     (subst (λ x. LinkedFrom (λ d. getD (a .keys .now) d 0) (a .edges) x (l .first) (l .next)) end (l .inv .1))

@@ -41,7 +41,9 @@ weights-requires : tie.Need-weights-requires Inv-loop μ-loop Inv-nodes μ-nodes
 weights-requires c κs = c .before .before .before .pre .0
 
 order-of-requires : tie.Need-order-of-requires Inv-loop μ-loop Inv-nodes μ-nodes Inv-steps μ-steps
-order-of-requires c κs = c .before .before .before .before .before .pre .0 .most
+order-of-requires c κs =
+    let at-times = c .before .before .before in
+    at-times .before .before .pre .0 .most
 
 -- what is asked, before the order
 abbrev ordered-from : tie.After-order-of Inv-loop μ-loop Inv-nodes μ-nodes Inv-steps μ-steps → tie.Start Inv-loop μ-loop Inv-nodes μ-nodes Inv-steps μ-steps
@@ -49,7 +51,8 @@ ordered-from c = let w = c .before .before in w .before .before .before .before
 
 fill-busy-requires : tie.Need-fill-busy-requires Inv-loop μ-loop Inv-nodes μ-nodes Inv-steps μ-steps
 fill-busy-requires c κs =
-    let i = c .before .before .before .before in
+    let at-busy = c .before .before .before in
+    let i = at-busy .before in
     let o = i .before .before in
     let w = ordered-from o .pre in
     ((i .idle .ensures .0, i .idle .ensures .1), (w .0 .most, λ v l. (on-board _ (w .1) (w .2) v l, omega (arith, w .2 .in-body v l))))
@@ -80,12 +83,17 @@ abbrev from-step : tie.In-steps Inv-loop μ-loop Inv-nodes μ-nodes Inv-steps μ
 from-step c = c .before .before
 
 waiting-requires : tie.Need-waiting-requires Inv-loop μ-loop Inv-nodes μ-nodes Inv-steps μ-steps
-waiting-requires c κs = ends-wide _ _ _ _ (asked (from-step (c .before .before .before .before .before .before .before)) .pre .0)
+waiting-requires c κs =
+    let at-times3 = c .before .before .before in
+    let at-start2 = at-times3 .before .before .before in
+    ends-wide _ _ _ _ (asked (from-step (at-start2 .before)) .pre .0)
 
 nodes-holds : tie.Need-nodes-holds Inv-loop μ-loop Inv-nodes μ-nodes Inv-steps μ-steps
 nodes-holds c =
-    let s = c .before .before .before .before .before .before .before .before in
-    (omega arith, trying-none _ _ _ _ _ _ _ _ (s .before .steps .inv .2) (s .steps-test .taken) _ (c .before .before .before .before .before .before .unplaced .ensures) (c .before .before .before .before .before .if1 .left) _ (ordered (from-step s)))
+    let at-waiting-arg = c .before .before .before in
+    let at-unplaced = at-waiting-arg .before .before .before in
+    let s = at-unplaced .before .before in
+    (omega arith, trying-none _ _ _ _ _ _ _ _ (s .before .steps .inv .2) (s .steps-test .taken) _ (at-unplaced .unplaced .ensures) (at-waiting-arg .before .before .if1 .left) _ (ordered (from-step s)))
 
 -- ---- a node that is tried
 

@@ -36,16 +36,24 @@ element-copy-out-blocked-2 : tie.Need-element-copy-out-blocked-2 Inv-loop μ-loo
 element-copy-out-blocked-2 c = omega (arith, tail-in (c .before .before .before))
 
 element-copy-out-blocked-3 : tie.Need-element-copy-out-blocked-3 Inv-loop μ-loop
-element-copy-out-blocked-3 c = omega (arith, head-in (c .before .before .before .before))
+element-copy-out-blocked-3 c =
+    let at-tail = c .before .before .before in
+    omega (arith, head-in (at-tail .before))
 
 mul-blocked : tie.Need-mul-blocked Inv-loop μ-loop
-mul-blocked c = omega (arith, tail-in (c .before .before .before .before .before))
+mul-blocked c =
+    let at-head = c .before .before .before in
+    omega (arith, tail-in (at-head .before .before))
 
 element-copy-out-blocked-4 : tie.Need-element-copy-out-blocked-4 Inv-loop μ-loop
-element-copy-out-blocked-4 c = omega (arith, tail-in (c .before .before .before .before .before))
+element-copy-out-blocked-4 c =
+    let at-head = c .before .before .before in
+    omega (arith, tail-in (at-head .before .before))
 
 element-copy-out-blocked-5 : tie.Need-element-copy-out-blocked-5 Inv-loop μ-loop
-element-copy-out-blocked-5 c = omega (arith, tail-in (c .before .before .before .before .before .before))
+element-copy-out-blocked-5 c =
+    let at-blocked-arg = c .before .before .before in
+    omega (arith, tail-in (at-blocked-arg .before .before .before))
 
 -- the edge that was asked
 abbrev met : tie.After-blocked Inv-loop μ-loop → tie.In-loop Inv-loop μ-loop

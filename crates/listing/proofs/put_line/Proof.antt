@@ -8,11 +8,25 @@ use Rattle.listing.proofs.put_line.Tie as tie
 
 returns : tie.Need-returns
 unfolding stepLine
-returns c = (search needs, idle-line _ _ _ _ _ _ _ _ _ _ (c .before .before .before .before .before .before .before .before .before .before .before .before .before .before .before .before .put-number .ensures .1) (c .before .before .before .before .before .before .before .before .before .before .before .before .put-byte .ensures .1) (c .before .before .before .before .before .before .before .before .put-nodes .ensures .1) _ _ (c .before .before .before .before .before .if1 .taken) (c .before .before .put-word .ensures))
+returns c =
+    let at-put-word = c .before .before in
+    let at-if1 = at-put-word .before .before .before in
+    let at-put-nodes = at-if1 .before .before .before in
+    let at-out2 = at-put-nodes .before .before .before in
+    let at-put-byte = at-out2 .before in
+    let at-out = at-put-byte .before .before .before in
+    (search needs, idle-line _ _ _ _ _ _ _ _ _ _ (at-out .before .put-number .ensures .1) (at-put-byte .put-byte .ensures .1) (at-put-nodes .put-nodes .ensures .1) _ _ (at-if1 .if1 .taken) (at-put-word .put-word .ensures))
 
 returns-2 : tie.Need-returns-2
 unfolding stepLine
-returns-2 c = (search needs, some-line _ _ _ _ _ _ _ _ _ _ (c .before .before .before .before .before .before .before .before .before .before .before .before .before .before .before .put-number .ensures .1) (c .before .before .before .before .before .before .before .before .before .before .before .put-byte .ensures .1) (c .before .before .before .before .before .before .before .put-nodes .ensures .1) _ _ (c .before .before .before .before .if1 .left) (c .before .before .put-byte2 .ensures .1))
+returns-2 c =
+    let at-put-byte2 = c .before .before in
+    let at-if1 = at-put-byte2 .before .before in
+    let at-put-nodes = at-if1 .before .before .before in
+    let at-out2 = at-put-nodes .before .before .before in
+    let at-put-byte = at-out2 .before in
+    let at-out = at-put-byte .before .before .before in
+    (search needs, some-line _ _ _ _ _ _ _ _ _ _ (at-out .before .put-number .ensures .1) (at-put-byte .put-byte .ensures .1) (at-put-nodes .put-nodes .ensures .1) _ _ (at-if1 .if1 .left) (at-put-byte2 .put-byte2 .ensures .1))
 
 pub put-line-spec : {M : Type 1} → statement M
 put-line-spec =

@@ -21,7 +21,9 @@ unfolding rows
 loop-holds c = (search tests, search tests, nothing _ _)
 
 loop-again : tie.Need-loop-again Inv-loop μ-loop
-loop-again c = (search tests, search tests, row-more _ _ _ _ _ _ _ _ (c .before .before .before .before .before .loop .inv .2) (c .before .before .put-line .ensures .1))
+loop-again c =
+    let at-put-line = c .before .before in
+    (search tests, search tests, row-more _ _ _ _ _ _ _ _ (at-put-line .before .before .before .loop .inv .2) (at-put-line .put-line .ensures .1))
 
 same-length : tie.Need-same-length Inv-loop μ-loop
 same-length c = same-long _ _ _ _ _ (c .before .loop .inv .2)

@@ -21,7 +21,10 @@ unfolding rows
 loop-holds c = (search tests, search tests, nothing _ _)
 
 loop-again : tie.Need-loop-again Inv-loop μ-loop
-loop-again c = (search tests, search tests, node-more _ _ _ _ _ _ _ _ _ _ (c .before .before .before .before .before .before .before .loop .inv .2) (c .before .before .put-node .ensures .1))
+loop-again c =
+    let at-put-node = c .before .before in
+    let at-put-node-arg = at-put-node .before .before .before in
+    (search tests, search tests, node-more _ _ _ _ _ _ _ _ _ _ (at-put-node-arg .before .before .loop .inv .2) (at-put-node .put-node .ensures .1))
 
 same-length : tie.Need-same-length Inv-loop μ-loop
 same-length c = same-long _ _ _ _ _ (c .before .loop .inv .2)

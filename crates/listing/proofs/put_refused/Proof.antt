@@ -8,7 +8,10 @@ use Rattle.listing.proofs.put_refused.Tie as tie
 
 returns : tie.Need-returns
 unfolding refusedWord
-returns c = (search needs, both _ _ _ _ _ _ _ _ (c .before .before .before .before .before .before .put-field .ensures .1) (c .before .before .put-byte .ensures .1))
+returns c =
+    let at-put-byte = c .before .before in
+    let at-out = at-put-byte .before .before .before in
+    (search needs, both _ _ _ _ _ _ _ _ (at-out .before .put-field .ensures .1) (at-put-byte .put-byte .ensures .1))
 
 pub put-refused-spec : {M : Type 1} → statement M
 put-refused-spec =

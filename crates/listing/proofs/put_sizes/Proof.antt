@@ -9,7 +9,12 @@ use Rattle.listing.proofs.put_sizes.Tie as tie
 
 returns : tie.Need-returns
 unfolding nodesWord edgesWord lengthWord sizesText
-returns c = (search needs, both _ _ _ _ _ _ _ _ (c .before .before .before .before .before .before .before .before .before .before .before .before .put-field .ensures .1) (both _ _ _ _ _ _ _ _ (c .before .before .before .before .before .before .before .put-field2 .ensures .1) (c .before .before .put-field3 .ensures .1)))
+returns c =
+    let at-put-field3 = c .before .before in
+    let at-slice-known3 = at-put-field3 .before .before .before in
+    let at-put-field2 = at-slice-known3 .before .before in
+    let at-slice-known2 = at-put-field2 .before .before .before in
+    (search needs, both _ _ _ _ _ _ _ _ (at-slice-known2 .before .before .put-field .ensures .1) (both _ _ _ _ _ _ _ _ (at-put-field2 .put-field2 .ensures .1) (at-put-field3 .put-field3 .ensures .1)))
 
 pub put-sizes-spec : {M : Type 1} → statement M
 put-sizes-spec =

@@ -9,11 +9,15 @@ use Rattle.listing.proofs.put_verdict.Tie as tie
 
 returns : tie.Need-returns
 unfolding shortestWord
-returns c = (search needs, shortest-put _ _ _ _ _ _ (omega (arith, c .before .before .before .before .before .if1 .taken)) (c .before .before .put-word .ensures))
+returns c =
+    let at-put-word = c .before .before in
+    (search needs, shortest-put _ _ _ _ _ _ (omega (arith, at-put-word .before .before .before .if1 .taken)) (at-put-word .put-word .ensures))
 
 returns-2 : tie.Need-returns-2
 unfolding openWord
-returns-2 c = (search needs, open-put _ _ _ _ _ _ (λ e. omega (arith, e, c .before .before .before .before .before .if1 .left)) (c .before .before .put-word2 .ensures))
+returns-2 c =
+    let at-put-word2 = c .before .before in
+    (search needs, open-put _ _ _ _ _ _ (λ e. omega (arith, e, at-put-word2 .before .before .before .if1 .left)) (at-put-word2 .put-word2 .ensures))
 
 pub put-verdict-spec : {M : Type 1} → statement M
 put-verdict-spec =

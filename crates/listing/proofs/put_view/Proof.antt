@@ -6,13 +6,20 @@ use Rattle.listing.proofs.put_view.Statement.{statement}
 use Rattle.listing.proofs.put_view.Tie as tie
 
 put-form-requires : tie.Need-put-form-requires
-put-form-requires c κs = c .before .before .before .before .before .pre .shown (c .before .if1 .taken)
+put-form-requires c κs =
+    let at-if1 = c .before in
+    let at-slice-known = at-if1 .before .before .before in
+    at-slice-known .before .pre .shown (at-if1 .if1 .taken)
 
 returns : tie.Need-returns
-returns c = (search needs, form-put _ _ _ _ (c .before .before .before .before .if1 .taken) (c .before .before .put-form .ensures .1))
+returns c =
+    let at-put-form = c .before .before in
+    (search needs, form-put _ _ _ _ (at-put-form .before .before .if1 .taken) (at-put-form .put-form .ensures .1))
 
 returns-2 : tie.Need-returns-2
-returns-2 c = (search needs, refused-put _ _ _ _ (c .before .before .before .before .if1 .left) (c .before .before .put-refused .ensures .1))
+returns-2 c =
+    let at-put-refused = c .before .before in
+    (search needs, refused-put _ _ _ _ (at-put-refused .before .before .if1 .left) (at-put-refused .put-refused .ensures .1))
 
 pub put-view-spec : {M : Type 1} → statement M
 put-view-spec =

@@ -13,8 +13,9 @@ returns c = sym (ap (λ o. closing o (c .before .before .args .total)) (c .enum-
 returns-2 : tie.Need-returns-2
 unfolding closing
 returns-2 c =
-    let a = c .before .before .before .before .args in
-    c .minus .ensures ∙ sym (ap (λ o. closing o (a .total)) (c .before .before .operation .given .1))
+    let at-operation = c .before .before in
+    let a = at-operation .before .before .args in
+    c .minus .ensures ∙ sym (ap (λ o. closing o (a .total)) (at-operation .operation .given .1))
 
 returns-3 : tie.Need-returns-3
 unfolding closing

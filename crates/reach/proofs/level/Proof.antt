@@ -29,12 +29,14 @@ element-copy-out-node c =
 
 spread-requires : tie.Need-spread-requires Inv-loop μ-loop
 spread-requires c κs =
-    let l = c .before .before .before .before .loop in
-    (c .before .before .before .before .before .pre .0, l .inv .1, l .inv .1 .node-in _ (omega arith))
+    let at-loop-test = c .before .before .before in
+    let l = at-loop-test .before .loop in
+    (at-loop-test .before .before .pre .0, l .inv .1, l .inv .1 .node-in _ (omega arith))
 
 loop-again : tie.Need-loop-again Inv-loop μ-loop
 loop-again c =
-    let l = c .before .before .before .before .before .loop in
+    let at-node = c .before .before .before in
+    let l = at-node .before .before .loop in
     let done = c .spread .ensures in (
       search needs,
       done .queued,

@@ -26,31 +26,46 @@ loop-holds c =
     (p .0 .begins _ (p .2), p .1, omega arith, λ g r v f t h k. half-first g r _ _ _ _ _ t v _ _ _ f _ (p .2) h k)
 
 element-copy-out-mark : tie.Need-element-copy-out-mark Inv-loop μ-loop
-element-copy-out-mark c = omega (arith, c .before .before .before .before .before .pre .0 .few)
+element-copy-out-mark c =
+    let at-loop = c .before .before .before in
+    omega (arith, at-loop .before .before .pre .0 .few)
 
 element-copy-out-mark-2 : tie.Need-element-copy-out-mark-2 Inv-loop μ-loop
-element-copy-out-mark-2 c = omega (arith, c .before .before .before .before .before .before .pre .0 .few)
+element-copy-out-mark-2 c =
+    let at-loop-test = c .before .before .before in
+    omega (arith, at-loop-test .before .before .before .pre .0 .few)
 
 mark-requires : tie.Need-mark-requires Inv-loop μ-loop
 mark-requires c κs =
-    let l = c .before .before .before .before .before .loop in
-    (l .inv .1, c .before .before .before .before .before .before .before .pre .0 .head-in (l .e) (omega arith))
+    let at-mark-arg = c .before .before .before in
+    let at-loop = at-mark-arg .before .before in
+    let l = at-loop .loop in
+    (l .inv .1, at-loop .before .before .pre .0 .head-in (l .e) (omega arith))
 
 element-copy-out-e-2 : tie.Need-element-copy-out-e-2 Inv-loop μ-loop
-element-copy-out-e-2 c = omega (arith, c .before .before .before .before .before .before .before .before .pre .0 .few)
+element-copy-out-e-2 c =
+    let at-mark-arg2 = c .before .before .before in
+    let at-loop = at-mark-arg2 .before .before .before in
+    omega (arith, at-loop .before .before .pre .0 .few)
 
 loop-less : tie.Need-loop-less Inv-loop μ-loop
 loop-less c =
-    let p = c .before .before .before .before .before .before .before .before .before .pre in
-    let l = c .before .before .before .before .before .before .before .loop in
+    let at-mark-arg3 = c .before .before .before in
+    let at-loop-test = at-mark-arg3 .before .before .before in
+    let p = at-loop-test .before .before .before .pre in
+    let l = at-loop-test .before .loop in
     omega (arith, p .0 .leads-on (l .e) (omega arith))
 
 loop-again : tie.Need-loop-again Inv-loop μ-loop
 loop-again c =
-    let p = c .before .before .before .before .before .before .before .before .before .pre in
-    let l = c .before .before .before .before .before .before .before .loop in
-    let met = c .before .mark .ensures in
-    let inside : l .e < c .before .before .before .before .before .before .before .before .before .args .edges = omega arith in (
+    let at-mark = c .before in
+    let at-mark-arg2 = at-mark .before .before .before in
+    let at-loop = at-mark-arg2 .before .before .before in
+    let start = at-loop .before .before in
+    let p = start .pre in
+    let l = at-loop .loop in
+    let met = at-mark .mark .ensures in
+    let inside : l .e < start .args .edges = omega arith in (
       p .0 .leads-in (l .e) inside,
       met .queued,
       omega (arith, met .grows),

@@ -36,11 +36,15 @@ element-copy-out-tight-mark-2 : tie.Need-element-copy-out-tight-mark-2 Inv-loop 
 element-copy-out-tight-mark-2 c = omega (arith, ends (c .before .before .before))
 
 element-copy-out-tight-mark-3 : tie.Need-element-copy-out-tight-mark-3 Inv-loop μ-loop
-element-copy-out-tight-mark-3 c = omega (arith, ends (c .before .before .before .before))
+element-copy-out-tight-mark-3 c =
+    let at-tail = c .before .before .before in
+    omega (arith, ends (at-tail .before))
 
 loop-again : tie.Need-loop-again Inv-loop μ-loop
 loop-again c =
-    let s = c .before .before .before .before .before .before .before in
+    let at-tight-mark-arg = c .before .before .before in
+    let at-loop-test = at-tight-mark-arg .before .before .before in
+    let s = at-loop-test .before in
     let l = s .loop in
     let a = s .before .args in
     (search needs, search needs, tights-more (a .from .now) (a .to .now) (a .delays .now) (a .retiming .now) (l .tights) (l .e) _ (omega arith) (c .tight-mark .ensures) (l .inv .2))

@@ -35,16 +35,18 @@ loop-holds c = (search needs, search needs, λ g r told retimed. fill-none _ _)
 
 weight-of-requires : tie.Need-weight-of-requires Inv-loop μ-loop
 weight-of-requires c κs =
-    let out = c .before .before .before .before .before .before in
+    let at-out = c .before .before .before in
+    let out = at-out .before .before .before in
     let ends = out .before .before .pre in
     (search needs, ends .most, heads-linked _ _ _ _ ends _ _ (out .links-of .ensures .chains))
 
 loop-again : tie.Need-loop-again Inv-loop μ-loop
 loop-again c =
-    let l = c .before .before .before .before .before .before in
+    let at-weight-of-arg = c .before .before .before in
+    let l = at-weight-of-arg .before .before .before in
     let out = l .before in
     let ends = out .before .before .pre in
-    let inside = c .before .before .before .before .before .loop-test .taken in (
+    let inside = at-weight-of-arg .before .before .loop-test .taken in (
       omega (arith, inside),
       search needs,
       λ g r told retimed. fill-more _ _ (l .loop .v) _ _ (omega (arith, inside, ends .most))

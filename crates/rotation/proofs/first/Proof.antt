@@ -28,7 +28,8 @@ times-of-requires c κs =
 
 first-plan-requires : tie.Need-first-plan-requires
 first-plan-requires c κs =
-    let t = c .before .before .before .before in
+    let at-read2 = c .before .before .before in
+    let t = at-read2 .before in
     let i = t .before .before in
     let r = i .before .before in
     let a = r .before .before .before .args in

@@ -27,7 +27,8 @@ times-of-requires c κs =
 
 rotate-plan-requires : tie.Need-rotate-plan-requires
 rotate-plan-requires c κs =
-    let t = c .before .before .before .before in
+    let at-read2 = c .before .before .before in
+    let t = at-read2 .before in
     let i = t .before .before in
     let r = i .before .before in
     let a = r .before .before .before .args in

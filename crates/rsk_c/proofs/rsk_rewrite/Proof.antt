@@ -10,7 +10,8 @@ use Rattle.rsk_c.proofs.rsk_rewrite.Tie as tie
 
 returns : tie.Need-returns
 returns c =
-    let w = refused _ _ _ (c .before .before .before .before .before .read .ensures) (sym (c .before .before .before .before .is-fine .ensures) ∙ not-true _ (c .before .before .before .if1 .taken)) in
+    let at-if1 = c .before .before .before in
+    let w = refused _ _ _ (at-if1 .before .before .read .ensures) (sym (at-if1 .before .is-fine .ensures) ∙ not-true _ (at-if1 .if1 .taken)) in
     let a = answered _ _ _ _ _ _ (w .0) (c .before .none .ensures) (c .fill .ensures .0) (c .fill .ensures .1) in
     (a .0, (w .1, a .1))
 
@@ -22,9 +23,12 @@ write-taken-requires c κs =
 
 returns-2 : tie.Need-returns-2
 returns-2 c =
-    let o = c .before .before .before .before .before in
-    let w = passed _ _ _ (c .before .before .before .before .before .before .before .before .before .read .ensures) (sym (c .before .before .before .before .before .before .before .before .is-fine .ensures) ∙ not-false _ (c .before .before .before .before .before .before .before .if1 .left)) _ _ (o .write-taken .ensures .0) (o .write-taken .ensures .1) in
-    let a = answered _ _ _ _ _ _ (w .0) (c .before .none2 .ensures) (c .fill2 .ensures .0) (c .fill2 .ensures .1) in
+    let at-none2 = c .before in
+    let at-out = at-none2 .before .before .before in
+    let at-if1 = at-out .before .before .before in
+    let o = at-out .before in
+    let w = passed _ _ _ (at-if1 .before .before .read .ensures) (sym (at-if1 .before .is-fine .ensures) ∙ not-false _ (at-if1 .if1 .left)) _ _ (o .write-taken .ensures .0) (o .write-taken .ensures .1) in
+    let a = answered _ _ _ _ _ _ (w .0) (at-none2 .none2 .ensures) (c .fill2 .ensures .0) (c .fill2 .ensures .1) in
     (a .0, (w .1, a .1))
 
 pub rsk-rewrite-spec : {M : Type 1} → statement M

@@ -7,7 +7,8 @@ use Rattle.rsk_c.proofs.rsk_search.Tie as tie
 
 returns : tie.Need-returns
 returns c =
-    filled _ _ _ _ _ _ _ _ (c .before .before .before .before .before .search .ensures) (c .fill .ensures .0) (c .fill .ensures .1)
+    let at-slice-known2 = c .before .before .before in
+    filled _ _ _ _ _ _ _ _ (at-slice-known2 .before .before .search .ensures) (c .fill .ensures .0) (c .fill .ensures .1)
 
 pub rsk-search-spec : {M : Type 1} → statement M
 rsk-search-spec =

@@ -44,25 +44,46 @@ cast-head : tie.Need-cast-head Inv-loop μ-loop
 cast-head c = omega (arith, head-in (c .before .before))
 
 element-copy-out-wide-2 : tie.Need-element-copy-out-wide-2 Inv-loop μ-loop
-element-copy-out-wide-2 c = omega (arith, tail-in (c .before .before .before .before), head-in (c .before .before .before .before))
+element-copy-out-wide-2 c =
+    let at-tail = c .before .before .before in
+    let at-loop-test = at-tail .before in
+    omega (arith, tail-in (at-loop-test), head-in (at-loop-test))
 
 mul-later : tie.Need-mul-later Inv-loop μ-loop
-mul-later c = omega (arith, head-in (c .before .before .before .before .before .before))
+mul-later c =
+    let at-wide-arg = c .before .before .before in
+    omega (arith, head-in (at-wide-arg .before .before .before))
 
 element-copy-out-later : tie.Need-element-copy-out-later Inv-loop μ-loop
-element-copy-out-later c = omega (arith, head-in (c .before .before .before .before .before .before))
+element-copy-out-later c =
+    let at-wide-arg = c .before .before .before in
+    omega (arith, head-in (at-wide-arg .before .before .before))
 
 mul-later-2 : tie.Need-mul-later-2 Inv-loop μ-loop
-mul-later-2 c = omega (arith, tail-in (c .before .before .before .before .before .before .before .before))
+mul-later-2 c =
+    let at-wide-arg2 = c .before .before .before in
+    let at-head = at-wide-arg2 .before .before .before in
+    omega (arith, tail-in (at-head .before .before))
 
 element-copy-out-later-2 : tie.Need-element-copy-out-later-2 Inv-loop μ-loop
-element-copy-out-later-2 c = omega (arith, tail-in (c .before .before .before .before .before .before .before .before))
+element-copy-out-later-2 c =
+    let at-wide-arg2 = c .before .before .before in
+    let at-head = at-wide-arg2 .before .before .before in
+    omega (arith, tail-in (at-head .before .before))
 
 element-copy-out-wide-3 : tie.Need-element-copy-out-wide-3 Inv-loop μ-loop
-element-copy-out-wide-3 c = omega (arith, tail-in (c .before .before .before .before .before .before .before .before .before), head-in (c .before .before .before .before .before .before .before .before .before))
+element-copy-out-wide-3 c =
+    let at-wide2 = c .before .before .before in
+    let at-wide-arg = at-wide2 .before .before .before in
+    let at-loop-test = at-wide-arg .before .before .before in
+    omega (arith, tail-in (at-loop-test), head-in (at-loop-test))
 
 element-copy-out-wide-4 : tie.Need-element-copy-out-wide-4 Inv-loop μ-loop
-element-copy-out-wide-4 c = omega (arith, tail-in (c .before .before .before .before .before .before .before .before .before .before .before .before))
+element-copy-out-wide-4 c =
+    let at-later-arg2 = c .before .before .before in
+    let at-wide2 = at-later-arg2 .before .before .before in
+    let at-wide-arg = at-wide2 .before .before .before in
+    omega (arith, tail-in (at-wide-arg .before .before .before))
 
 -- what the code compares of an edge
 sides : (c : tie.After-wide4 Inv-loop μ-loop) (g : Loop) (p : Pair)
@@ -70,13 +91,32 @@ sides : (c : tie.After-wide4 Inv-loop μ-loop) (g : Loop) (p : Pair)
     → Timed g p (c .before .before .before .before .before .before .before .before .before .before .before .before .before .before .before .before .args .t5)
     → Sides g p (c .before .before .before .before .before .before .before .before .before .before .before .before .before .before .before .before .args .edges - c .before .before .before .before .before .before .before .before .before .before .before .before .before .before .before .loop .left) (c .before .before .before .before .before .before .later .result) (c .before .before .later2 .result) (c .wide4 .result)
 sides c g p told timed =
-    sides-are g p _ _ _ _ _ (c .before .before .before .before .before .before .before .before .before .before .before .before .before .before .before .before .pre .0) told timed _ _ (c .before .before .before .before .before .before .before .before .wide2 .result) (c .before .before .before .wide3 .result) _ _ _ (omega arith) (c .before .before .before .before .before .before .before .before .before .before .wide .ensures .0) (omega (arith, c .before .before .before .before .before .before .before .before .wide2 .ensures .0)) (omega (arith, c .before .before .before .wide3 .ensures .0)) (c .before .before .before .before .before .before .later .ensures .0) (c .before .before .later2 .ensures .0) (c .wide4 .ensures .0)
+    let at-wide3 = c .before .before .before in
+    let at-later = at-wide3 .before .before .before in
+    let at-wide2 = at-later .before .before in
+    let at-wide = at-wide2 .before .before in
+    let at-tail = at-wide .before .before .before in
+    sides-are g p _ _ _ _ _ (at-tail .before .before .before .pre .0) told timed _ _ (at-wide2 .wide2 .result) (at-wide3 .wide3 .result) _ _ _ (omega arith) (at-wide .wide .ensures .0) (omega (arith, at-wide2 .wide2 .ensures .0)) (omega (arith, at-wide3 .wide3 .ensures .0)) (at-later .later .ensures .0) (c .before .before .later2 .ensures .0) (c .wide4 .ensures .0)
 
 returns : tie.Need-returns Inv-loop μ-loop
-returns c = λ g p told timed. left-here _ _ _ _ (c .before .before .before .before .before .before .before .before .before .before .before .before .before .before .before .loop-test .taken) (c .before .before .before .before .before .before .before .before .before .before .before .before .before .before .before .before .loop .inv .0) (c .before .before .before .before .before .before .before .before .before .before .before .before .before .before .before .before .loop .inv .1 g p told timed) (edge-breaks _ _ _ _ _ _ (sides (c .before) g p told timed) (omega (arith, c .if1 .taken)))
+returns c =
+    let at-wide4 = c .before in
+    let at-wide3 = at-wide4 .before .before .before in
+    let at-later = at-wide3 .before .before .before in
+    let at-wide-arg2 = at-later .before .before .before in
+    let at-head = at-wide-arg2 .before .before .before in
+    let at-loop = at-head .before .before .before in
+    λ g p told timed. left-here _ _ _ _ (at-head .before .before .loop-test .taken) (at-loop .loop .inv .0) (at-loop .loop .inv .1 g p told timed) (edge-breaks _ _ _ _ _ _ (sides (at-wide4) g p told timed) (omega (arith, c .if1 .taken)))
 
 loop-again : tie.Need-loop-again Inv-loop μ-loop
-loop-again c = (search needs, λ g p told timed. left-next _ _ _ _ (c .before .before .before .before .before .before .before .before .before .before .before .before .before .before .before .loop-test .taken) (c .before .before .before .before .before .before .before .before .before .before .before .before .before .before .before .before .loop .inv .0) (c .before .before .before .before .before .before .before .before .before .before .before .before .before .before .before .before .loop .inv .1 g p told timed) (edge-keeps _ _ _ _ _ _ (sides (c .before) g p told timed) (omega (arith, c .if1 .left))))
+loop-again c =
+    let at-wide4 = c .before in
+    let at-wide3 = at-wide4 .before .before .before in
+    let at-later = at-wide3 .before .before .before in
+    let at-wide-arg2 = at-later .before .before .before in
+    let at-head = at-wide-arg2 .before .before .before in
+    let at-loop = at-head .before .before .before in
+    (search needs, λ g p told timed. left-next _ _ _ _ (at-head .before .before .loop-test .taken) (at-loop .loop .inv .0) (at-loop .loop .inv .1 g p told timed) (edge-keeps _ _ _ _ _ _ (sides (at-wide4) g p told timed) (omega (arith, c .if1 .left))))
 
 returns-2 : tie.Need-returns-2 Inv-loop μ-loop
 returns-2 c = λ g p told timed. left-none _ _ _ _ (c .loop-test .left) (c .before .loop .inv .1 g p told timed)

@@ -29,7 +29,8 @@ held-on-requires c κs =
 
 loop-again : tie.Need-loop-again Inv-loop μ-loop
 loop-again c =
-    let l = c .before .before .before .before in
+    let at-loop-test = c .before .before .before in
+    let l = at-loop-test .before in
     let a = l .before .args in
     omega (arith, busy-more (a .length) (a .runs .now) (a .start .now) (a .class) (a .hold) (a .step) (l .loop .v) _ (c .held-on .ensures .0), c .held-on .ensures .1)
 

@@ -46,7 +46,8 @@ node-spot-requires c κs =
 
 loop-again : tie.Need-loop-again Inv-loop μ-loop
 loop-again c =
-    let k = c .before .before .before .before in
+    let at-times = c .before .before .before in
+    let k = at-times .before in
     let i = k .before .before .before in
     let l = i .before in (
       search needs,

@@ -38,7 +38,8 @@ rotate-times-requires c κs =
 
 loop-less : tie.Need-loop-less Inv-loop μ-loop
 loop-less c =
-    let h = c .before .before .before .before .before in
+    let at-rotate-times = c .before .before .before in
+    let h = at-rotate-times .before .before in
     omega (arith, h .before .loop-test .taken)
 
 loop-again : tie.Need-loop-again Inv-loop μ-loop

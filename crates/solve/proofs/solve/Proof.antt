@@ -12,10 +12,11 @@ returns c = when-settled _ _ (c .before .before .before .settle .ensures) _ (c .
 returns-2 : tie.Need-returns-2
 unfolding systemOf
 returns-2 c =
-    let a = c .before .before .before .before in
+    let at-settle = c .before .before .before in
+    let a = at-settle .before in
     let g = a .args in
     let s = systemOf (g .nodes) (g .edges) (g .tails .now) (g .heads .now) (g .gains .now) (g .costs .now) in
-    when-unsettled s _ (c .before .before .before .settle .ensures) _ (c .before .if1 .left) (a .pre .1) (a .pre .0 .0) (a .pre .0 .1) (c .shortest-cycle .ensures)
+    when-unsettled s _ (at-settle .settle .ensures) _ (c .before .if1 .left) (a .pre .1) (a .pre .0 .0) (a .pre .0 .1) (c .shortest-cycle .ensures)
 
 pub solve-spec : {M : Type 1} → statement M
 solve-spec =

@@ -48,28 +48,47 @@ cast-head : tie.Need-cast-head Inv-loop μ-loop
 cast-head c = omega (arith, ends (c .before .before))
 
 mul-have : tie.Need-mul-have Inv-loop μ-loop
-mul-have c = omega (arith, ends (c .before .before .before .before))
+mul-have c =
+    let at-tail = c .before .before .before in
+    omega (arith, ends (at-tail .before))
 
 element-copy-out-have : tie.Need-element-copy-out-have Inv-loop μ-loop
-element-copy-out-have c = omega (arith, ends (c .before .before .before .before))
+element-copy-out-have c =
+    let at-tail = c .before .before .before in
+    omega (arith, ends (at-tail .before))
 
 add-have : tie.Need-add-have Inv-loop μ-loop
-add-have c = omega (arith, ends (c .before .before .before .before .before))
+add-have c =
+    let at-head = c .before .before .before in
+    omega (arith, ends (at-head .before .before))
 
 mul-want : tie.Need-mul-want Inv-loop μ-loop
-mul-want c = omega (arith, ends (c .before .before .before .before .before))
+mul-want c =
+    let at-head = c .before .before .before in
+    omega (arith, ends (at-head .before .before))
 
 element-copy-out-want : tie.Need-element-copy-out-want Inv-loop μ-loop
-element-copy-out-want c = omega (arith, ends (c .before .before .before .before .before))
+element-copy-out-want c =
+    let at-head = c .before .before .before in
+    omega (arith, ends (at-head .before .before))
 
 add-want : tie.Need-add-want Inv-loop μ-loop
-add-want c = omega (arith, ends (c .before .before .before .before .before .before .before .before))
+add-want c =
+    let at-have = c .before .before .before in
+    let at-head = at-have .before .before .before in
+    omega (arith, ends (at-head .before .before))
 
 mul-values : tie.Need-mul-values Inv-loop μ-loop
-mul-values c = omega (arith, ends (c .before .before .before .before .before .before .before .before .before))
+mul-values c =
+    let at-want = c .before .before .before in
+    let at-wide-arg = at-want .before .before .before in
+    omega (arith, ends (at-wide-arg .before .before .before))
 
 element-write-values : tie.Need-element-write-values Inv-loop μ-loop
-element-write-values c = omega (arith, ends (c .before .before .before .before .before .before .before .before .before))
+element-write-values c =
+    let at-want = c .before .before .before in
+    let at-wide-arg = at-want .before .before .before in
+    omega (arith, ends (at-wide-arg .before .before .before))
 
 loop-again : tie.Need-loop-again Inv-loop μ-loop
 unfolding systemOf

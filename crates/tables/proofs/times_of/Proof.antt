@@ -22,8 +22,10 @@ loop-holds c = (search needs, search needs, fill-none _ _, fill-none _ _, fill-n
 
 class-below : (c : tie.In-loop Inv-loop μ-loop) → nodeOf (c .before .before .before .before .before .before .before .args .form) (c .before .loop .v) .class < 4
 class-below c =
-    let w = c .before .before .before .before .before .before .before .pre in
-    omega (arith, w .node (c .before .loop .v) (omega arith), w .classes)
+    let at-loop = c .before in
+    let at-begins = at-loop .before .before .before in
+    let w = at-begins .before .before .before .pre in
+    omega (arith, w .node (at-loop .loop .v) (omega arith), w .classes)
 
 cast-row : tie.Need-cast-row Inv-loop μ-loop
 cast-row c = omega (arith, class-below c)

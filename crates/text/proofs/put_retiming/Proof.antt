@@ -10,7 +10,10 @@ returns : tie.Need-returns
 returns c = (search needs, retiming-none _ _ _ (omega (arith, c .if1 .taken)))
 
 returns-2 : tie.Need-returns-2
-returns-2 c = (search needs, retiming-some _ _ _ _ _ _ _ _ (λ e. omega (arith, e, c .before .before .before .before .before .before .before .before .if1 .left)) (c .before .before .before .before .before .before .put-byte .ensures .1) (c .before .before .put-number .ensures .1) (omega arith))
+returns-2 c =
+    let at-put-number = c .before .before in
+    let at-out = at-put-number .before .before .before in
+    (search needs, retiming-some _ _ _ _ _ _ _ _ (λ e. omega (arith, e, at-out .before .before .before .if1 .left)) (at-out .before .put-byte .ensures .1) (at-put-number .put-number .ensures .1) (omega arith))
 
 pub put-retiming-spec : {M : Type 1} → statement M
 put-retiming-spec =

@@ -20,7 +20,10 @@ loop-holds : tie.Need-loop-holds Inv-loop μ-loop
 loop-holds c = (search tests, search tests, nothing _ _)
 
 loop-again : tie.Need-loop-again Inv-loop μ-loop
-loop-again c = (search tests, search tests, byte-more _ _ _ _ _ _ _ _ _ (c .before .before .before .before .before .loop-test .taken) (omega arith) (c .before .before .before .before .before .before .loop .inv .2) (c .before .before .put-byte .ensures .1))
+loop-again c =
+    let at-put-byte = c .before .before in
+    let at-loop-test = at-put-byte .before .before .before in
+    (search tests, search tests, byte-more _ _ _ _ _ _ _ _ _ (at-loop-test .loop-test .taken) (omega arith) (at-loop-test .before .loop .inv .2) (at-put-byte .put-byte .ensures .1))
 
 same-length : tie.Need-same-length Inv-loop μ-loop
 same-length c = same-long _ _ _ _ _ (c .before .loop .inv .2)

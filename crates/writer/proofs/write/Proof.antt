@@ -18,7 +18,8 @@ slice-aggregate-bytes c = let l = c .before .lay .ensures in sym (front-long (re
 
 put-requires : tie.Need-put-requires
 put-requires c κs =
-    let l = c .before .before .before .before .before .lay .ensures in
+    let at-read = c .before .before .before in
+    let l = at-read .before .before .lay .ensures in
     omega (arith, l .0, front-long (replicate 1367 0) _ _ _ (l .1) (l .0))
 
 returns-2 : tie.Need-returns-2
