@@ -1,4 +1,6 @@
 // What comes back: the refusals of the scope's table, their numbers and details, and cycles.
+#![tactic(auto)]
+
 ghost use Rattle.std.specs.Prelude.{◌≡◌, ltb};
 ghost use Rattle.std.proofs.lemmas.List.Edits.{sets};
 ghost use Rattle.lists.specs.Pick.{pick};
@@ -7,7 +9,7 @@ ghost use Rattle.answer.specs.Outcome.{no_cycle, told_of, cycle_list, told_list,
 
 // Every refusal, in the table's order, with its details in the table's order. `None`: it answers.
 // A cycle that proves a refusal stands beside it, in a `Cycle`.
-#[derive(Drop)]
+#[derive(Clone, Copy)]
 pub enum Refusal {
     None,
     Short(u32),
@@ -33,7 +35,7 @@ pub enum Refusal {
 }
 
 // A refusal's details, or an answer's numbers; 0 where there are fewer.
-#[derive(Drop)]
+#[derive(Clone, Copy)]
 pub struct Details {
     pub first: u32,
     pub second: u32,
@@ -41,7 +43,7 @@ pub struct Details {
 }
 
 // Edge numbers, head to tail: the first `count` places; the rest are 0.
-#[derive(Drop)]
+#[derive(Clone, Copy)]
 pub struct Cycle {
     pub count: u8,
     pub edges: [u16; 64],

@@ -5,6 +5,8 @@
 // Runs and plain loops (8, 9) take K and a seed from the first two numbers; the third is the length of the start
 // table, the fourth that of the finish steps, the room that of the values. Place 31 of the start table holds 7
 // and each further place the seed more, modulo 2^32.
+#![tactic(auto)]
+
 ghost use Rattle.std.specs.Prelude.{◌≡◌, length};
 
 use libc::STDOUT_FILENO;

@@ -1,10 +1,12 @@
 // The words of the command line: the commands that they name, and decimal numbers.
+#![tactic(auto)]
+
 ghost use Rattle.std.specs.Prelude.{◌≡◌, ◌≤◌, ◌<◌};
 ghost use Rattle.commands.specs.Numbers.{longer_by, number_in};
 ghost use Rattle.commands.specs.Commands.{same_word, rewriting_of, command_of};
 
 // What a word names; `Unknown` where it names no command.
-#[derive(Drop)]
+#[derive(Clone, Copy)]
 pub enum Command {
     Unknown,
     Judge,
@@ -21,7 +23,7 @@ pub enum Command {
 }
 
 // A number from 0 to 65535, or none.
-#[derive(Drop)]
+#[derive(Clone, Copy)]
 pub enum Number {
     Is(u16),
     Not,

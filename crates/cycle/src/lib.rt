@@ -1,6 +1,8 @@
 // From a system of constraints, a losing cycle with the fewest edges of all losing closed walks.
 // A row holds, for a target node and a number of edges, at each node the most that a walk of so many edges from there
 // to the target costs above what it gains, raised by BASE. What starts elsewhere starts at 0, too low to get there.
+#![tactic(auto)]
+
 ghost use Rattle.std.specs.Prelude.{◌≡◌, ℕ, ◌+◌, ◌-◌, ◌≤◌, ◌<◌, max, true, leb, get_or, set, replicate};
 ghost use Rattle.system.specs.Graph.{Joined};
 ghost use Rattle.system.specs.System.{system_of};
@@ -13,7 +15,7 @@ use answer::Cycle;
 const BASE: u32 = 8388608;
 
 // Where a closed walk with the fewest edges begins, and how many edges it has.
-#[derive(Drop)]
+#[derive(Clone, Copy)]
 struct Start {
     node: u8,
     count: u8,

@@ -1,6 +1,8 @@
 // A body as a reservation table, into a lent buffer: a row for each step, a column for each class, in it a
 // place of six bytes for each unit. Where the buffer ends nothing is put, so that the same functions measure
 // a table, into no room at all, and write it.
+#![tactic(auto)]
+
 ghost use Rattle.std.specs.Prelude.{◌&&◌, ◌≡◌, [], ◌∷◌, ◌++◌, ◌+◌, ◌-◌, ◌*◌, ◌≤◌, ◌<◌, eqb, ltb, length, get_or};
 ghost use Rattle.laid.specs.Laid.{Laid};
 ghost use Rattle.laid.specs.Rows.{rows};

@@ -1,4 +1,6 @@
 // One field of a record, taken from the lent bytes at a cursor.
+#![tactic(auto)]
+
 ghost use Rattle.std.specs.Prelude.{◌≡◌, ◌+◌, ◌≤◌, ◌<◌, length};
 ghost use Rattle.field.specs.Number.{number_at};
 ghost use Rattle.field.specs.Taking.{wrong_at, Took};
@@ -6,7 +8,7 @@ ghost use Rattle.field.specs.Taking.{wrong_at, Took};
 use answer::Refusal;
 
 // What a field belongs to: which refusal it gets where it is out of range.
-#[derive(Drop)]
+#[derive(Clone, Copy)]
 pub enum Kind {
     Mark,
     Version,
@@ -19,14 +21,14 @@ pub enum Kind {
 }
 
 // The offset of the next field; once something is refused, of the field that was.
-#[derive(Drop)]
+#[derive(Clone, Copy)]
 pub struct Cursor {
     pub at: usize,
     pub refusal: Refusal,
 }
 
 // A field's value, 0 if it was refused, and where to go on.
-#[derive(Drop)]
+#[derive(Clone, Copy)]
 pub struct Taken {
     pub value: u32,
     pub next: Cursor,

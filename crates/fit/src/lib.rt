@@ -1,4 +1,6 @@
 // Fitting a retiming to given starts.
+#![tactic(auto)]
+
 ghost use Rattle.std.specs.Prelude.{◌≢◌, ◌≡◌, ℕ, ◌+◌, ◌-◌, ◌/◌, ◌≤◌, ◌<◌, get_or, take};
 ghost use Rattle.lists.specs.Fold.{top};
 ghost use Rattle.form.specs.declared.Form.{Form};
@@ -20,7 +22,7 @@ use tables::Timetable;
 use widths::wide;
 
 // The retiming where one fits, all 0 else; the cycle that proves that none does.
-#[derive(Drop)]
+#[derive(Clone, Copy)]
 pub struct Fitting {
     pub fits: bool,
     pub retiming: [u8; 64],
@@ -28,7 +30,7 @@ pub struct Fitting {
 }
 
 // What each edge gains and costs the retimings, in tables that can be lent.
-#[derive(Drop)]
+#[derive(Clone, Copy)]
 struct Limits {
     gains: [u16; 256],
     costs: [u16; 256],

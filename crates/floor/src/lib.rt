@@ -1,4 +1,6 @@
 // The floor: a length that no legal pair of the loop is shorter than, and what attains it.
+#![tactic(auto)]
+
 ghost use Rattle.std.specs.Prelude.{◌≡◌, false, ℕ, ◌+◌, ◌-◌, ◌*◌, ◌/◌, ◌≤◌, ◌<◌, max, get_or};
 ghost use Rattle.answer.specs.Outcome.{no_cycle, edges_of};
 ghost use Rattle.answer.specs.Tally.{Tallies};
@@ -23,7 +25,7 @@ use tables::Timetable;
 use widths::wide;
 
 // The floor and the part that attains it first; refused, 0 and no part.
-#[derive(Drop)]
+#[derive(Clone, Copy)]
 pub struct Floored {
     pub refusal: Refusal,
     pub floor: u32,
@@ -32,14 +34,14 @@ pub struct Floored {
 }
 
 // The most steps that a class needs, and the lowest class that needs them.
-#[derive(Drop)]
+#[derive(Clone, Copy)]
 struct Busiest {
     part: u16,
     class: u8,
 }
 
 // Parts (a) and (b), the latter with the lowest class that it is of, and the floor.
-#[derive(Drop)]
+#[derive(Clone, Copy)]
 struct AllParts {
     latency: u16,
     units: u16,

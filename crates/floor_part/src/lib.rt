@@ -1,9 +1,11 @@
 // What attains the floor, and how an answer tells it.
+#![tactic(auto)]
+
 ghost use Rattle.std.specs.Prelude.{◌≡◌};
 ghost use Rattle.floor_part.specs.Numbers.{part_number, part_class};
 
 // What attains the floor: the largest latency, the busy steps of a class, or a cycle. `None`: nothing was worked out.
-#[derive(Drop)]
+#[derive(Clone, Copy)]
 pub enum Part {
     None,
     Latency,

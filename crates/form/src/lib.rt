@@ -1,4 +1,6 @@
 // The held form of a record: the machine's classes beside the loop, and the schedule if there is one.
+#![tactic(auto)]
+
 ghost use Rattle.std.specs.Prelude.{◌≡◌};
 ghost use Rattle.form.specs.Places.{empty_form};
 ghost use Rattle.form.specs.Hold.{hold};
@@ -7,7 +9,7 @@ ghost use Rattle.form.specs.Adding.{class_added, node_added, edge_added};
 use answer::Refusal;
 
 // A node's operation with its constant.
-#[derive(Drop)]
+#[derive(Clone, Copy)]
 pub enum Operation {
     Add(u32),
     Sub(u32),
@@ -15,20 +17,20 @@ pub enum Operation {
 }
 
 // A class of the board: `pipelined` is 0 for plain and 1 for pipelined.
-#[derive(Drop)]
+#[derive(Clone, Copy)]
 pub struct Class {
     pub latency: u8,
     pub units: u8,
     pub pipelined: u8,
 }
 
-#[derive(Drop)]
+#[derive(Clone, Copy)]
 pub struct Node {
     pub class: u8,
     pub operation: Operation,
 }
 
-#[derive(Drop)]
+#[derive(Clone, Copy)]
 pub struct Edge {
     pub from: u8,
     pub to: u8,
@@ -36,11 +38,11 @@ pub struct Edge {
 }
 
 // A step of the loop's body, counted from 1. Run steps and iterations are counted apart.
-#[derive(Drop)]
+#[derive(Clone, Copy)]
 pub struct BodyStep(pub u16);
 
 // The counts of a record's tables, and the length of its schedule; 0 means no schedule.
-#[derive(Drop)]
+#[derive(Clone, Copy)]
 pub struct Header {
     pub classes: u8,
     pub nodes: u8,
@@ -50,7 +52,7 @@ pub struct Header {
 
 // A plural of the header is a count, its singular the table that it counts: node v is `node[v]` for v below `nodes`.
 // An edge is spread over three tables of numbers, so that loops can borrow them.
-#[derive(Drop)]
+#[derive(Clone, Copy)]
 pub struct Form {
     pub header: Header,
     pub class: [Class; 4],
@@ -63,7 +65,7 @@ pub struct Form {
 }
 
 // A form after an addition; `refusal` says whether it was taken.
-#[derive(Drop)]
+#[derive(Clone, Copy)]
 pub struct Added {
     pub form: Form,
     pub refusal: Refusal,

@@ -1,4 +1,6 @@
 // One node in one run step: whether its operands are there and a unit of its class is free, and then its value.
+#![tactic(auto)]
+
 ghost use Rattle.std.specs.Prelude.{◌≡◌, ◌+◌, ◌*◌, ◌≤◌, ◌<◌, length};
 ghost use Rattle.lists.specs.First.{first_from};
 ghost use Rattle.operands.specs.Tables.{TailsLinked};

@@ -1,4 +1,6 @@
 // The judge: whether a record's pair is legal.
+#![tactic(auto)]
+
 ghost use Rattle.std.specs.Prelude.{◌≡◌};
 ghost use Rattle.answer.specs.Outcome.{no_cycle};
 ghost use Rattle.form.specs.declared.Form.{Form};
@@ -9,7 +11,7 @@ use answer::{Cycle, Refusal};
 use tables::Timetable;
 
 // The refusal, None where the pair is legal, and the cycle that proves a knot.
-#[derive(Drop)]
+#[derive(Clone, Copy)]
 pub struct Judged {
     pub refusal: Refusal,
     pub cycle: Cycle,

@@ -1,4 +1,6 @@
 // Whether a loop has a knot, a cycle of edges with delay sum 0, and one with the fewest edges.
+#![tactic(auto)]
+
 ghost use Rattle.std.specs.Prelude.{◌≡◌, ℕ, ◌*◌, ◌≤◌, ◌<◌, get_or};
 ghost use Rattle.legal.specs.Loop.{Loop};
 ghost use Rattle.tables.specs.Edges.{Ends, Told};
@@ -8,7 +10,7 @@ use answer::Cycle;
 use widths::wide;
 
 // A knot, or no cycle and then a rank for each node: nodes in their order never read a later one of the same iteration.
-#[derive(Drop)]
+#[derive(Clone, Copy)]
 pub struct Ranking {
     pub cycle: Cycle,
     pub rank: [u32; 64],

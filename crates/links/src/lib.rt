@@ -1,10 +1,12 @@
 // The edges that share a key, their tail or their head, as links: a walk over them meets no other edge.
+#![tactic(auto)]
+
 ghost use Rattle.std.specs.Prelude.{◌≡◌, ℕ, ◌≤◌, ◌<◌, length, get_or};
 ghost use Rattle.links.specs.Chains.{Linked};
 
 // The edges of each key, in edge order: the first with a key, and after an edge the next with the same key.
 // The number of edges stands where there is no such edge.
-#[derive(Drop)]
+#[derive(Clone, Copy)]
 pub struct Links {
     pub first: [u16; 64],
     pub next: [u16; 256],

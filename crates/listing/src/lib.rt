@@ -1,5 +1,7 @@
 // The listing of a record as text, into a lent buffer. Where the buffer ends nothing is put, so that the
 // same functions measure a listing, into no room at all, and write it.
+#![tactic(auto)]
+
 ghost use Rattle.std.specs.Prelude.{◌≡◌, [], ◌∷◌, ◌++◌, ◌+◌, ◌≤◌, ◌<◌, eqb, length};
 ghost use Rattle.lists.specs.Pick.{pick};
 ghost use Rattle.answer.specs.Refused.{number_of};
@@ -15,14 +17,14 @@ use form::Form;
 use text::{put_byte, put_field, put_number, put_retiming, put_word};
 
 // The listing's size, or Room and 0.
-#[derive(Drop)]
+#[derive(Clone, Copy)]
 pub struct Listed {
     pub refusal: Refusal,
     pub size: u32,
 }
 
 // What a listing shows: the judge's number, and where that is 0 the form and its floor.
-#[derive(Drop)]
+#[derive(Clone, Copy)]
 struct View {
     number: u32,
     form: Form,

@@ -1,4 +1,6 @@
 // What the machine and the plain loop share: what a node computes of its operands, which the links into it name.
+#![tactic(auto)]
+
 ghost use Rattle.std.specs.Prelude.{◌≡◌, ℕ, ◌≤◌, ◌<◌};
 ghost use Rattle.legal.specs.Loop.{Loop};
 ghost use Rattle.machine.specs.Values.{plus as plusOf, minus as minusOf, times as times_of, computed};

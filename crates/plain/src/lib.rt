@@ -1,4 +1,6 @@
 // The plain loop: iteration after iteration, each node after those whose values it needs.
+#![tactic(auto)]
+
 ghost use Rattle.std.specs.Prelude.{◌≡◌, ℕ, ◌*◌, ◌≤◌, ◌<◌, length, get_or, take};
 ghost use Rattle.answer.specs.Outcome.{no_cycle};
 ghost use Rattle.form.specs.Ranges.{WellFormed};
@@ -12,14 +14,14 @@ use form::Form;
 use machine::Iteration;
 
 // The refusal, None where the loop was run, and the cycle that proves a knot.
-#[derive(Drop)]
+#[derive(Clone, Copy)]
 pub struct Looped {
     pub refusal: Refusal,
     pub cycle: Cycle,
 }
 
 // The value that comes next: of the node at a place of the order, in an iteration.
-#[derive(Drop)]
+#[derive(Clone, Copy)]
 struct Turn {
     iteration: u32,
     place: usize,

@@ -1,4 +1,6 @@
 // Plans: what becomes of a form, and its record with the new pair.
+#![tactic(auto)]
+
 ghost use Rattle.std.specs.Prelude.{true, ◌≡◌, map};
 ghost use Rattle.lists.specs.Pick.{pick};
 ghost use Rattle.answer.specs.Refused.{fine};
@@ -12,7 +14,7 @@ use form::{BodyStep, Form};
 use tables::Timetable;
 
 // What a fit, a first schedule, a rotation and a search answer: the size of the record written and the rotations completed, or the refusal with 0.
-#[derive(Drop)]
+#[derive(Clone, Copy)]
 pub struct Scheduled {
     pub refusal: Refusal,
     pub size: u32,
@@ -21,7 +23,7 @@ pub struct Scheduled {
 }
 
 // A timetable with a form's new pair and the rotations that it took, or what is refused of the form with its cycle.
-#[derive(Drop)]
+#[derive(Clone, Copy)]
 pub struct Plan {
     pub refusal: Refusal,
     pub rotations: u32,

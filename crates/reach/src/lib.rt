@@ -1,4 +1,6 @@
 // How many other nodes each node reaches over edges of retimed delay 0: its weight in the list rule.
+#![tactic(auto)]
+
 ghost use Rattle.std.specs.Prelude.{◌≡◌, ℕ, ◌+◌, ◌≤◌, ◌<◌, eqb, get_or};
 ghost use Rattle.lists.specs.Pick.{pick};
 ghost use Rattle.legal.specs.Loop.{Loop};

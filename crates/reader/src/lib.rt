@@ -1,4 +1,6 @@
 // A record's bytes into a held form: every field in layout order, at a plain cursor.
+#![tactic(auto)]
+
 ghost use Rattle.std.specs.Prelude.{◌≡◌, ◌+◌, ◌*◌, ◌-◌, ◌≤◌, ◌<◌, ltb, length, get_or, replicate};
 ghost use Rattle.lists.specs.Pick.{pick};
 ghost use Rattle.answer.specs.Refused.{fine};
@@ -13,33 +15,33 @@ use field::{Cursor, Kind};
 use form::{BodyStep, Class, Form, Header, Node, Operation};
 
 // The form as far as it is read, and the cursor: what the definitions of reading speak of.
-#[derive(Drop)]
+#[derive(Clone, Copy)]
 pub struct Reading {
     pub form: Form,
     pub next: Cursor,
 }
 
 // The header, and the cursor past it. Tables go from stage to stage and not the form, which would be copied at each.
-#[derive(Drop)]
+#[derive(Clone, Copy)]
 pub struct Counts {
     pub header: Header,
     pub next: Cursor,
 }
 
 // A table as far as it is read, and the cursor past its rows.
-#[derive(Drop)]
+#[derive(Clone, Copy)]
 pub struct ClassTable {
     pub class: [Class; 4],
     pub next: Cursor,
 }
 
-#[derive(Drop)]
+#[derive(Clone, Copy)]
 pub struct NodeTable {
     pub node: [Node; 64],
     pub next: Cursor,
 }
 
-#[derive(Drop)]
+#[derive(Clone, Copy)]
 pub struct EdgeTable {
     pub from: [u8; 256],
     pub to: [u8; 256],
@@ -47,7 +49,7 @@ pub struct EdgeTable {
     pub next: Cursor,
 }
 
-#[derive(Drop)]
+#[derive(Clone, Copy)]
 pub struct StartTable {
     pub start: [BodyStep; 64],
     pub retiming: [u8; 64],
@@ -55,7 +57,7 @@ pub struct StartTable {
 }
 
 // What reading the record at the front answers: its form and where it ends, or the refusal, the empty form and 0.
-#[derive(Drop)]
+#[derive(Clone, Copy)]
 pub struct Prefix {
     pub refusal: Refusal,
     pub size: usize,
@@ -63,7 +65,7 @@ pub struct Prefix {
 }
 
 // What reading a record answers: its form, or the refusal and the empty form.
-#[derive(Drop)]
+#[derive(Clone, Copy)]
 pub struct Record {
     pub refusal: Refusal,
     pub form: Form,

@@ -1,4 +1,6 @@
 // First schedules and rotations.
+#![tactic(auto)]
+
 ghost use Rattle.std.specs.Prelude.{◌≡◌};
 ghost use Rattle.form.specs.declared.Form.{Form};
 ghost use Rattle.plans.specs.Tabled.{Tabled};

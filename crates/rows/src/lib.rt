@@ -1,4 +1,6 @@
 // A row of each table of a record: its fields in layout order, taken at a plain cursor.
+#![tactic(auto)]
+
 ghost use Rattle.std.specs.Prelude.{◌≡◌, ◌+◌, ◌-◌, ◌≤◌, ◌<◌};
 ghost use Rattle.rows.specs.Rows.{ClassRead, NodeRead, EdgeRead, StartRead, operation_of};
 
@@ -6,25 +8,25 @@ use field::{Cursor, Kind};
 use form::{BodyStep, Class, Edge, Node, Operation};
 
 // A row of each table, and the cursor past it.
-#[derive(Drop)]
+#[derive(Clone, Copy)]
 pub struct ClassRow {
     pub class: Class,
     pub next: Cursor,
 }
 
-#[derive(Drop)]
+#[derive(Clone, Copy)]
 pub struct NodeRow {
     pub node: Node,
     pub next: Cursor,
 }
 
-#[derive(Drop)]
+#[derive(Clone, Copy)]
 pub struct EdgeRow {
     pub edge: Edge,
     pub next: Cursor,
 }
 
-#[derive(Drop)]
+#[derive(Clone, Copy)]
 pub struct StartRow {
     pub start: BodyStep,
     pub retiming: u8,

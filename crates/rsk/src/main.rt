@@ -1,5 +1,7 @@
 // The library from the command line: what the words ask for. The record stands at standard input; what is
 // refused is told on standard error, in one line.
+#![tactic(auto)]
+
 mod tell;
 mod work;
 

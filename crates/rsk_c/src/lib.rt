@@ -1,4 +1,6 @@
 // What C and Rust link. Each function takes a record's bytes first and an answer last, and has no requires.
+#![tactic(auto)]
+
 ghost use Rattle.std.specs.Prelude.{◌≡◌, length};
 ghost use Rattle.answer.specs.Refused.{number_of};
 ghost use Rattle.rsk_c.specs.Rewrite.{rewritten, rewritten_out, rewritten_answer};

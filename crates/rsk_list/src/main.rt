@@ -1,4 +1,6 @@
 // Prints the listing of the record that standard input holds.
+#![tactic(auto)]
+
 use libc::STDOUT_FILENO;
 
 // A record has at most 1367 bytes, so of a longer input the reader looks at no byte that is not read here.

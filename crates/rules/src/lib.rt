@@ -1,4 +1,6 @@
 // The two rules of a schedule: every edge's head waits for its tail, and no step holds more of a class than its units.
+#![tactic(auto)]
+
 ghost use Rattle.std.specs.Prelude.{◌≡◌, ◌+◌, ◌-◌, ◌*◌, ◌%◌, ◌≤◌, ◌<◌};
 ghost use Rattle.legal.specs.Loop.{Loop, Pair};
 ghost use Rattle.legal.specs.Judging.{broken_edge, units_of};

@@ -1,4 +1,6 @@
 // Searches: the first schedule, then rotations, and the shortest pair met.
+#![tactic(auto)]
+
 ghost use Rattle.std.specs.Prelude.{◌≡◌, ◌≤◌};
 ghost use Rattle.form.specs.declared.Form.{Form};
 ghost use Rattle.tables.specs.Times.{times_of};
@@ -13,7 +15,7 @@ use plans::{Plan, Scheduled};
 use tables::Timetable;
 
 // The timetable with the shortest pair that a search of a form met, and the rotations completed.
-#[derive(Drop)]
+#[derive(Clone, Copy)]
 pub struct Found {
     pub times: Timetable,
     pub rotations: u32,

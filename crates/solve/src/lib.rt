@@ -1,4 +1,6 @@
 // A system settled, or a losing cycle with the fewest edges: what knots, fits and floors ask.
+#![tactic(auto)]
+
 ghost use Rattle.std.specs.Prelude.{◌≤◌};
 ghost use Rattle.system.specs.Graph.{Joined};
 ghost use Rattle.system.specs.System.{system_of};
@@ -7,7 +9,7 @@ ghost use Rattle.solve.specs.Solved.{Solved};
 use answer::Cycle;
 
 // The least values where the system is settled, else a losing cycle; the cycle is empty where it is settled.
-#[derive(Drop)]
+#[derive(Clone, Copy)]
 pub struct Solution {
     pub settled: bool,
     pub values: [u32; 64],

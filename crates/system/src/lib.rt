@@ -1,11 +1,13 @@
 // Constraint systems y(tail) + cost ≤ y(head) + gain over the edges of a graph: the least values that solve one, by rounds from 0.
+#![tactic(auto)]
+
 ghost use Rattle.std.specs.Prelude.{◌≡◌, ℕ, ◌<◌, ◌≤◌, get_or};
 ghost use Rattle.system.specs.Graph.{Joined};
 ghost use Rattle.system.specs.System.{system_of};
 ghost use Rattle.system.specs.Rounds.{Rounded, settled_of};
 
 // Values that solve the system, if settled; else those of the last round.
-#[derive(Drop)]
+#[derive(Clone, Copy)]
 pub struct Settled {
     pub settled: bool,
     pub values: [u32; 64],

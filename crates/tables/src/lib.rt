@@ -1,4 +1,6 @@
 // What the rules ask of a form, in tables of numbers that can be lent: a reference to a form has no proof, and a copy of one has 1.7 KB.
+#![tactic(auto)]
+
 ghost use Rattle.std.specs.Prelude.{◌≡◌, ◌≤◌};
 ghost use Rattle.form.specs.Ranges.{WellFormed};
 ghost use Rattle.tables.specs.Most.{most_of};
@@ -7,7 +9,7 @@ ghost use Rattle.tables.specs.Times.{times_of};
 use form::{Class, Form};
 
 // For each node its class, latency, start and retiming.
-#[derive(Drop)]
+#[derive(Clone, Copy)]
 pub struct Timetable {
     pub classes: u8,
     pub nodes: u8,

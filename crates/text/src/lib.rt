@@ -1,5 +1,7 @@
 // Bytes, words and numbers as text, put into a lent buffer at a place. Where the buffer ends nothing is put, so
 // that the same functions measure a text, into no room at all, and write it.
+#![tactic(auto)]
+
 ghost use Rattle.std.specs.Prelude.{◌≡◌, [], ◌∷◌, ◌++◌, ◌+◌, ◌≤◌, ◌<◌, length};
 ghost use Rattle.laid.specs.Laid.{Laid};
 ghost use Rattle.text.specs.Decimal.{decimal};

@@ -1,4 +1,6 @@
 // First schedules and rotations of a form that is lent: bodies by the list rule, with the retiming that fits them.
+#![tactic(auto)]
+
 ghost use Rattle.std.specs.Prelude.{◌≡◌, ℕ, ◌+◌, ◌-◌, ◌≤◌, ◌<◌, leb, get_or, replicate};
 ghost use Rattle.lists.specs.Pick.{pick};
 ghost use Rattle.lists.specs.Filled.{filled};

@@ -1,4 +1,6 @@
 // Numbers as wider ones.
+#![tactic(auto)]
+
 ghost use Rattle.std.specs.Prelude.{◌≡◌, ◌<◌};
 
 // A byte as a u16; the bound spares each use a proof.

@@ -1,4 +1,6 @@
 // Refusals as lines that a person reads.
+#![tactic(auto)]
+
 ghost use Rattle.std.specs.Prelude.{◌≡◌, [], ◌∷◌, ◌++◌, ◌+◌, ◌-◌, ◌≤◌, ◌<◌, min, length, get_or};
 ghost use Rattle.laid.specs.Laid.{Laid};
 ghost use Rattle.words.specs.Numbers.{place_text, high_text, low_text, numeral};

@@ -1,4 +1,6 @@
 // A held form into a record's bytes: laid out in a buffer, read back, and copied out where the reader takes them.
+#![tactic(auto)]
+
 ghost use Rattle.std.specs.Prelude.{true, ◌≡◌, ◌+◌, ◌*◌, ◌≤◌, min, length, get_or};
 ghost use Rattle.std.proofs.lemmas.List.Edits.{sets};
 ghost use Rattle.answer.specs.Refused.{fine};
@@ -14,7 +16,7 @@ use answer::Refusal;
 use form::{BodyStep, Class, Edge, Form, Header, Node, Operation};
 
 // What writing a form answers: the record's size, or the refusal and 0.
-#[derive(Drop)]
+#[derive(Clone, Copy)]
 pub struct Written {
     pub refusal: Refusal,
     pub size: u32,

@@ -1,0 +1,18 @@
+-- `answer::fill_cycle` meets its contract.
+-- Assumes nothing.
+use mathlib.Core.Path.{◌≡◌, refl}
+use mathlib.Core.List.{map}
+use Prim.Native.Nat.{◌≤◌, ◌-◌}
+use lib.Seq.{sets}
+use native.Mathlib.Omega.{arith}
+use borrow.Author.Rules.{rules}
+use Rattle.lists.specs.Span.{span}
+use Rattle.answer.specs.Outcome.{cycle_edge, cycle_list}
+use Rattle.answer.proofs.Laws.{place-more}
+use Rattle.answer.proofs.fill_cycle.Given as goal
+
+abbrev pub invariant-loop-i : goal.invariant-loop-i
+invariant-loop-i l = (l.i ≤ 64) × (l.answer ≡ sets l.initial.answer 5 (map (cycle_edge l.cycle) (span 0 l.i)))
+
+abbrev pub decreases-loop-i : goal.decreases-loop-i
+decreases-loop-i l = 64 - l.i

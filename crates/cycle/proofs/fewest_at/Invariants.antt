@@ -1,0 +1,18 @@
+-- `cycle::fewest_at` meets its contract. The loop's invariant: the row is the one of k - 1 edges, and no closed walk of
+-- fewer than k edges through the node loses.
+-- Assumes nothing.
+use mathlib.Core.Path.{◌≡◌}
+use Prim.Native.Nat.{◌≤◌, ◌<◌, ◌+◌, ◌-◌}
+use native.Mathlib.Omega.{arith}
+use borrow.Author.Rules.{rules}
+use Rattle.system.specs.System.{system_of}
+use Rattle.cycle.specs.Row.{Row, row-none, row_more}
+use Rattle.cycle.specs.Found.{wide, NoneBelow, none_below_one, none-below-more, loses}
+use Rattle.cycle.proofs.fewest_at.Given as goal
+
+abbrev pub invariant-loop-k : goal.invariant-loop-k
+invariant-loop-k l =
+    (0 < l.k) × (l.k ≤ l.limit) × Row (wide l.edges l.tails l.heads l.gains l.costs) l.node (l.k - 1) l.row × NoneBelow (wide l.edges l.tails l.heads l.gains l.costs) l.node l.k
+
+abbrev pub decreases-loop-k : goal.decreases-loop-k
+decreases-loop-k l = l.limit - l.k

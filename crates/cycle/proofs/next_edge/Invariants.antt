@@ -1,0 +1,23 @@
+-- `cycle::next_edge` meets its contract. The loop's invariant: no edge passed leaves the node and gives the value.
+-- Assumes nothing.
+use mathlib.Core.Path.{◌≡◌, sym, ◌∙◌}
+use mathlib.Core.Logic.{⊎_elim}
+use mathlib.Core.List.{List}
+use Prim.Native.Nat.{ℕ, ◌≤◌, ◌<◌, ◌-◌}
+use lib.ListN.{get_or}
+use native.Mathlib.Nat.{not-le_of_lt}
+use native.Mathlib.Omega.{arith}
+use borrow.Author.Rules.{rules}
+use borrow.Author.Tests.{leb-true, leb-false}
+use borrow.Author.Count.{below_none, below_more}
+use Rattle.system.specs.System.{System, system_of}
+use Rattle.cycle.specs.Row.{Gives}
+use Rattle.cycle.specs.Found.{wide}
+use Rattle.cycle.proofs.next_edge.Given as goal
+
+abbrev pub invariant-loop-e : goal.invariant-loop-e
+invariant-loop-e l =
+    (l.e ≤ l.edges) × ((i : ℕ) → i < l.e → Left (wide l.edges l.tails l.heads l.gains l.costs) l.row l.node l.value i)
+
+abbrev pub decreases-loop-e : goal.decreases-loop-e
+decreases-loop-e l = l.edges - l.e

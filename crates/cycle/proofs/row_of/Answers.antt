@@ -1,0 +1,26 @@
+-- `cycle::row_of` meets its contract. The loop's invariant: the row is the one of so many edges as turns.
+-- Assumes nothing.
+use mathlib.Core.Path.{◌≡◌}
+use Prim.Native.Nat.{◌≤◌, ◌-◌}
+use native.Mathlib.Omega.{arith}
+use borrow.Author.Rules.{rules}
+use Rattle.system.specs.System.{system_of}
+use Rattle.cycle.specs.Row.{Row, row-none, row_more}
+use Rattle.cycle.specs.Found.{wide}
+use Rattle.cycle.proofs.row_of.Goals as goal
+
+pub loop-k-init : goal.loop-k-init
+loop-k-init c = (omega arith, rw c.first_row-row.ensures (row-none _ 64 _ c.requires.1))
+
+pub next_row-row-requires : goal.next_row-row-requires
+next_row-row-requires c = (c.requires.0, λ v. omega (arith, c.loop-k.invariant.1.cap v))
+
+pub loop-k-preserved : goal.loop-k-preserved
+unfolding system_of
+loop-k-preserved c =
+    (omega arith, row_more _ _ _ _ _ c.loop-k.invariant.1 c.next_row-row.ensures)
+
+pub returns : goal.returns
+returns c =
+    let whole : c.loop-k.k ≡ c.args.count = omega arith in
+    rw whole at c.loop-k.invariant.1

@@ -1,0 +1,31 @@
+-- `drawing::put_blanks` meets its contract: a blank more each turn.
+-- Assumes nothing.
+use mathlib.Core.Path.{◌≡◌}
+use Prim.Native.Nat.{◌≤◌, ◌+◌, ◌-◌}
+use native.Mathlib.Omega.{arith}
+use Rattle.laid.specs.Laid.{Laid}
+use Rattle.laid.specs.Laws.{same-long}
+use Rattle.drawing.specs.Table.{blanks}
+use Rattle.drawing.proofs.Laws.{tests, no-blank, blank-more, blanks-whole}
+use Rattle.drawing.proofs.put_blanks.Goals as goal
+
+pub loop-i-init : goal.loop-i-init
+loop-i-init c = (search tests, search tests, no-blank _ _)
+
+pub loop-i-preserved : goal.loop-i-preserved
+loop-i-preserved c = (search tests, search tests, blank-more _ _ _ _ _ _ _ c.loop-i.invariant.2 c.put_byte-next.ensures.1)
+
+pub shape_of-out : goal.shape_of-out
+shape_of-out c = same-long _ _ _ _ _ c.loop-i.invariant.2
+
+pub returns : goal.returns
+returns c = (search tests, blanks-whole _ _ _ _ _ _ (omega arith) c.loop-i.invariant.2)
+
+pub put_byte-next-requires : goal.put_byte-next-requires
+put_byte-next-requires c = search tests
+
+pub overflow_add-i : goal.overflow_add-i
+overflow_add-i c = search tests
+
+pub loop-i-smaller : goal.loop-i-smaller
+loop-i-smaller c = search tests

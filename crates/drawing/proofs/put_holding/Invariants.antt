@@ -1,0 +1,17 @@
+-- `drawing::put_holding` meets its contract: the loop's invariant is that the first nodes are laid.
+-- Assumes nothing.
+use Prim.Native.Nat.{◌≤◌, ◌+◌, ◌-◌, ◌*◌}
+use native.Mathlib.Omega.{arith}
+use Rattle.laid.specs.Laid.{Laid}
+use Rattle.laid.specs.Rows.{rows}
+use Rattle.laid.specs.Laws.{nothing, row_more, rows_whole, same-long}
+use lib.ListN.{get_or}
+use Rattle.drawing.specs.Table.{held_place}
+use Rattle.drawing.proofs.Laws.{tests}
+use Rattle.drawing.proofs.put_holding.Given as goal
+
+abbrev pub invariant-loop-i : goal.invariant-loop-i
+invariant-loop-i l = (l.i ≤ l.count) × (l.next ≤ l.at + 6 * l.i) × Laid l.initial.out l.at (rows (λ v. held_place l.step l.class l.hold v (get_or l.runs v 0) (get_or l.start v 0)) l.i) l.out l.next
+
+abbrev pub decreases-loop-i : goal.decreases-loop-i
+decreases-loop-i l = l.count - l.i

@@ -1,0 +1,49 @@
+-- `drawing::put_starting` meets its contract: the loop's invariant is that the first nodes are laid.
+-- Assumes nothing.
+use Prim.Native.Nat.{◌≤◌, ◌+◌, ◌-◌, ◌*◌}
+use native.Mathlib.Omega.{arith}
+use Rattle.laid.specs.Laid.{Laid}
+use Rattle.laid.specs.Rows.{rows}
+use Rattle.laid.specs.Laws.{nothing, rows_whole, same-long}
+use lib.ListN.{get_or}
+use Rattle.drawing.specs.Table.{start_place}
+use Rattle.drawing.proofs.Laws.{tests, start-more}
+use Rattle.drawing.proofs.put_starting.Goals as goal
+
+pub loop-i-init : goal.loop-i-init
+unfolding rows
+loop-i-init c = (search tests, search tests, nothing _ _)
+
+pub loop-i-preserved : goal.loop-i-preserved
+loop-i-preserved c =
+    (search tests, search tests, start-more _ _ c.args.runs.now c.args.start.now c.args.retiming.now _ _ _ _ _ _ _ _ _ _ c.loop-i.invariant.2 c.put_starter-next.ensures.1 (omega arith) (omega arith) (omega arith))
+
+pub shape_of-out : goal.shape_of-out
+shape_of-out c = same-long _ _ _ _ _ c.loop-i.invariant.2
+
+pub returns : goal.returns
+returns c = (search tests, rows_whole _ _ _ _ _ _ _ c.loop-i.invariant.2 (omega arith))
+
+pub overflow_cast-i : goal.overflow_cast-i
+overflow_cast-i c = search tests
+
+pub bounds-runs-i : goal.bounds-runs-i
+bounds-runs-i c = search tests
+
+pub offset_bounds-start-i : goal.offset_bounds-start-i
+offset_bounds-start-i c = search tests
+
+pub bounds-start-i : goal.bounds-start-i
+bounds-start-i c = search tests
+
+pub bounds-retiming-i : goal.bounds-retiming-i
+bounds-retiming-i c = search tests
+
+pub put_starter-next-requires : goal.put_starter-next-requires
+put_starter-next-requires c = search tests
+
+pub overflow_add-i : goal.overflow_add-i
+overflow_add-i c = search tests
+
+pub loop-i-smaller : goal.loop-i-smaller
+loop-i-smaller c = search tests

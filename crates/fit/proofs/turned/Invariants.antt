@@ -1,0 +1,12 @@
+-- `fit::turned` meets its contract: the places passed are filled.
+-- Assumes nothing.
+use mathlib.Core.Path.{◌≡◌, refl}
+use Prim.Native.Nat.{◌≤◌, ◌-◌}
+use native.Mathlib.Omega.{arith}
+use borrow.Author.Rules.{rules}
+use Rattle.lists.specs.Filled.{fill_none, fill_more}
+use Rattle.fit.specs.Tables.{turned_over}
+use Rattle.fit.proofs.turned.Given as goal
+
+abbrev pub invariant-loop-v : goal.invariant-loop-v
+invariant-loop-v l = (l.v ≤ l.nodes) × (l.retiming ≡ turned_over l.highest l.values l.v)

@@ -1,0 +1,18 @@
+-- `floor::busy_steps` meets its contract.
+-- Assumes nothing.
+use native.Mathlib.Omega.{arith}
+use native.Mathlib.Nat.{mul-one}
+use Rattle.floor.proofs.Laws.{product, hold-plain, hold-piped}
+use borrow.Author.Rules.{rules}
+use Rattle.floor.proofs.busy_steps.Goals as goal
+
+pub overflow_mul-result : goal.overflow_mul-result
+overflow_mul-result c = omega (arith, product c.wide.result c.wide-then-class-eq0.result 64 8 (omega (arith, c.wide.ensures.0)) (omega (arith, c.wide-then-class-eq0.ensures.0)))
+
+pub returns-then-class-eq0 : goal.returns-then-class-eq0
+returns-then-class-eq0 c =
+    let p = product c.wide.result c.wide-then-class-eq0.result 64 8 (omega (arith, c.wide.ensures.0)) (omega (arith, c.wide-then-class-eq0.ensures.0)) in
+    (rw (c.wide.ensures.0, c.wide-then-class-eq0.ensures.0, hold-plain c.args.class (omega (arith, c.if-class-eq0.true))), omega arith)
+
+pub returns : goal.returns
+returns c = (rw (c.wide-2.ensures.0, hold-piped c.args.class c.if-class-eq0.false, mul-one), omega (arith, c.wide-2.ensures.0))

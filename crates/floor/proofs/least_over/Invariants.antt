@@ -1,0 +1,22 @@
+-- `floor::least_over` meets its contract: no length up to the short one is enough, and the long one is.
+-- Assumes nothing.
+use mathlib.Core.Path.{◌≡◌, sym, ◌∙◌}
+use mathlib.Core.Bool.{true, false}
+use mathlib.Core.Logic.{◌≢◌}
+use Prim.Native.Nat.{ℕ, ◌-◌, ◌≤◌}
+use native.Mathlib.Omega.{arith}
+use Rattle.lists.specs.Pick.{both_ways}
+use Rattle.legal.specs.Loop.{Loop}
+use Rattle.legal.specs.Knots.{unknotted-free}
+use Rattle.floor.specs.Tables.{Paced}
+use Rattle.floor.specs.Least.{enough, enough-512, short-less, least-cycle}
+use borrow.Author.Rules.{rules}
+use Rattle.floor.proofs.least_over.Given as goal
+
+abbrev pub invariant-loop-short : goal.invariant-loop-short
+invariant-loop-short l =
+    (l.short ≤ l.long) × (l.long ≤ 512) × (1 ≤ l.long)
+    × ((g : Loop) → Paced g l.nodes l.edges l.from l.to l.delays l.costs → enough g l.known ≡ false → (enough g l.long ≡ true) × ((l : ℕ) → 1 ≤ l → l ≤ l.short → enough g l ≡ false))
+
+abbrev pub decreases-loop-short : goal.decreases-loop-short
+decreases-loop-short l = l.long - l.short

@@ -1,0 +1,16 @@
+-- `form::Form::add_edge` meets its contract.
+-- Assumes nothing.
+use native.Mathlib.Omega.{arith}
+use borrow.Author.Tests.{le-ltb, lt-ltb}
+use Rattle.lists.specs.Pick.{pick}
+use Rattle.form.specs.Adding.{added_to, edge_added}
+use borrow.Author.Rules.{rules}
+use Rattle.form.proofs.Form.add_edge.Goals as goal
+
+pub returns-then-edges-ge256 : goal.returns-then-edges-ge256
+unfolding edge_added added_to pick
+returns-then-edges-ge256 c = simp (le-ltb c.args.self.header.edges 256 (omega (arith, c.if-edges-ge256.true)))
+
+pub returns : goal.returns
+unfolding edge_added added_to pick
+returns c = simp (lt-ltb c.args.self.header.edges 256 (omega (arith, c.if-edges-ge256.false)))

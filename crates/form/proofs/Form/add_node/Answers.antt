@@ -1,0 +1,16 @@
+-- `form::Form::add_node` meets its contract.
+-- Assumes nothing.
+use native.Mathlib.Omega.{arith}
+use borrow.Author.Tests.{le-ltb, lt-ltb}
+use Rattle.lists.specs.Pick.{pick}
+use Rattle.form.specs.Adding.{added_to, node_added}
+use borrow.Author.Rules.{rules}
+use Rattle.form.proofs.Form.add_node.Goals as goal
+
+pub returns-then-nodes-ge64 : goal.returns-then-nodes-ge64
+unfolding node_added added_to pick
+returns-then-nodes-ge64 c = simp (le-ltb c.args.self.header.nodes 64 (omega (arith, c.if-nodes-ge64.true)))
+
+pub returns : goal.returns
+unfolding node_added added_to pick
+returns c = simp (lt-ltb c.args.self.header.nodes 64 (omega (arith, c.if-nodes-ge64.false)))

@@ -1,0 +1,16 @@
+-- `knots::gains_of` meets its contract: the places passed are filled.
+-- Assumes nothing.
+use mathlib.Core.Path.{◌≡◌}
+use Prim.Native.Nat.{ℕ, ◌*◌, ◌-◌, ◌≤◌, ◌<◌}
+use native.Mathlib.Omega.{arith}
+use lib.ListN.{length, get_or}
+use borrow.Author.Rules.{rules}
+use Rattle.lists.specs.Place.{filled_more}
+use Rattle.knots.proofs.gains_of.Given as goal
+
+abbrev pub invariant-loop-e : goal.invariant-loop-e
+invariant-loop-e l =
+    (l.e ≤ l.edges) × (length l.gains ≡ 256) × ((k : ℕ) → k < l.e → get_or l.gains k 0 ≡ 64 * get_or l.delays k 0)
+
+abbrev pub decreases-loop-e : goal.decreases-loop-e
+decreases-loop-e l = l.edges - l.e

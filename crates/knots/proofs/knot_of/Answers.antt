@@ -1,0 +1,7 @@
+-- `knots::knot_of` meets its contract: the cycle beside the ranks.
+-- Assumes nothing.
+use borrow.Author.Rules.{rules}
+use Rattle.knots.proofs.knot_of.Goals as goal
+
+pub returns : goal.returns
+returns c g told = (c.ranked-ranking.ensures g told).found

@@ -1,0 +1,14 @@
+-- `list_rule::keys_of` meets its contract: the nodes passed have keys that make up 255 with their weights.
+-- Assumes nothing.
+use mathlib.Core.Path.{◌≡◌}
+use Prim.Native.Nat.{ℕ, ◌+◌, ◌-◌, ◌≤◌, ◌<◌}
+use native.Mathlib.Omega.{arith}
+use native.Mathlib.Nat.{not-suc-le-zero}
+use lib.ListN.{length, get_or, length-set}
+use borrow.Author.Rules.{rules}
+use Rattle.list_rule.proofs.Weighed.{keys-more}
+use Rattle.list_rule.proofs.keys_of.Given as goal
+
+abbrev pub invariant-loop-v : goal.invariant-loop-v
+invariant-loop-v l =
+    (l.v ≤ l.nodes) × (length l.keys ≡ 64) × ((u : ℕ) → u < l.v → get_or l.keys u 0 + get_or l.weight u 0 ≡ 255)

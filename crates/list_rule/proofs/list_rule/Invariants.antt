@@ -1,0 +1,26 @@
+-- `list_rule::list_rule` meets its contract: in each of its three loops the rest of the rule equals the whole.
+-- Assumes nothing.
+use mathlib.Core.Path.{◌≡◌, refl, ◌∙◌}
+use mathlib.Core.Logic.{⊎_elim}
+use Prim.Native.Nat.{◌≤◌, ◌<◌, ◌-◌}
+use native.Mathlib.Omega.{arith}
+use lib.ListN.{get_or}
+use borrow.Author.Rules.{rules}
+use borrow.Author.Tests.{eqb-true, eqb-false, not-true, not-false}
+use Rattle.reach.specs.Tables.{ends-wide}
+use Rattle.list_rule.specs.Tables.{OnBoard}
+use Rattle.list_rule.proofs.Units.{on-board, used-fits}
+use Rattle.list_rule.proofs.Steps.{Ordered, ordered_of, Filling, filling-none, filling-end, filling-done, Trying, trying-none, trying-end, trying-placed, trying-waits, trying-full, trying-put, Searching, searching-none, searching-next, searching-full, searching-end}
+use Rattle.list_rule.proofs.list_rule.Given as goal
+
+abbrev pub invariant-loop-q : goal.invariant-loop-q
+invariant-loop-q l =
+    (l.i ≡ l.initial.i) × (l.q ≤ l.q-end) × (l.q-end ≤ 1031) × Searching l.times.class l.times.runs l.times.nodes l.start l.v l.p l.q-end l.q
+
+abbrev pub invariant-nodes : goal.invariant-nodes
+invariant-nodes l =
+    (l.i ≤ l.times.nodes) × Trying l.edges l.from l.to l.delays l.times l.order l.initial.start l.p l.i l.start l.busy
+
+abbrev pub invariant-steps : goal.invariant-steps
+invariant-steps l =
+    (1 ≤ l.p) × (l.p ≤ 1024) × Filling l.edges l.from l.to l.delays l.times l.p l.start l.busy

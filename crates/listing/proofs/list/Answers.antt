@@ -1,0 +1,14 @@
+-- `listing::list` meets its contract: measured in no room, where nothing is put, then put where it fits.
+-- Assumes nothing.
+use native.Mathlib.Omega.{arith}
+use borrow.Author.Rules.{rules}
+use Rattle.listing.proofs.Laws.{cramped, fits}
+use Rattle.listing.proofs.list.Goals as goal
+
+pub returns-then-out-size : goal.returns-then-out-size
+returns-then-out-size c =
+    cramped _ _ _ c.view_of-view.ensures _ _ c.put_view-size.ensures.1 (omega (arith, c.if-out-size.true))
+
+pub returns : goal.returns
+returns c =
+    fits _ _ _ c.view_of-view.ensures _ _ c.put_view-size.ensures.1 _ _ (omega (arith, c.if-out-size.false)) c.put_view.ensures.1

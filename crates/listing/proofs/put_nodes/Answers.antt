@@ -1,0 +1,45 @@
+-- `listing::put_nodes` meets its contract: the loop's invariant is that the first nodes of the step are laid.
+-- Assumes nothing.
+use Prim.Native.Nat.{◌≤◌, ◌+◌, ◌*◌, ◌-◌}
+use native.Mathlib.Omega.{arith}
+use Rattle.laid.specs.Laid.{Laid}
+use Rattle.laid.specs.Rows.{rows}
+use Rattle.laid.specs.Laws.{nothing, same-long}
+use Rattle.listing.specs.Lines.{cell, node_text}
+use Rattle.listing.proofs.Laws.{tests, node-more, nodes-whole}
+use Rattle.listing.proofs.put_nodes.Goals as goal
+
+pub loop-i-init : goal.loop-i-init
+unfolding rows
+loop-i-init c = (search tests, search tests, nothing _ _)
+
+pub loop-i-preserved : goal.loop-i-preserved
+loop-i-preserved c =
+    (search tests, search tests, node-more _ _ _ _ _ _ _ _ _ _ c.loop-i.invariant.2 c.put_node-next.ensures.1)
+
+pub shape_of-out : goal.shape_of-out
+shape_of-out c = same-long _ _ _ _ _ c.loop-i.invariant.2
+
+pub returns : goal.returns
+returns c = (search tests, nodes-whole _ _ _ _ _ _ _ _ _ c.loop-i.invariant.2 (omega arith))
+
+pub overflow_cast-i : goal.overflow_cast-i
+overflow_cast-i c = search tests
+
+pub offset_bounds-start-i : goal.offset_bounds-start-i
+offset_bounds-start-i c = search tests
+
+pub bounds-start-i : goal.bounds-start-i
+bounds-start-i c = search tests
+
+pub bounds-retiming-i : goal.bounds-retiming-i
+bounds-retiming-i c = search tests
+
+pub put_node-next-requires : goal.put_node-next-requires
+put_node-next-requires c = search tests
+
+pub overflow_add-i : goal.overflow_add-i
+overflow_add-i c = search tests
+
+pub loop-i-smaller : goal.loop-i-smaller
+loop-i-smaller c = search tests

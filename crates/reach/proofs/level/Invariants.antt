@@ -1,0 +1,16 @@
+-- `reach::level` meets its contract: the nodes from place i on still wait.
+-- Assumes nothing.
+use mathlib.Core.Path.{◌≡◌, subst}
+use Prim.Native.Nat.{ℕ, ◌-◌, ◌≤◌}
+use native.Mathlib.Omega.{arith}
+use borrow.Author.Rules.{rules}
+use Rattle.legal.specs.Loop.{Loop}
+use Rattle.reach.specs.Tables.{TellsTight}
+use Rattle.reach.specs.Marking.{Queued, Marking, None}
+use Rattle.reach.proofs.Marks.{queued-few, leaves-queue}
+use Rattle.reach.proofs.level.Given as goal
+
+abbrev pub invariant-loop-i : goal.invariant-loop-i
+invariant-loop-i l =
+    (l.i ≤ l.to) × Queued l.marks l.queue l.end × (l.to ≤ l.end)
+    × ((g : Loop) (r : ℕ → ℕ) (v : ℕ) → TellsTight g r l.edges l.first l.next l.heads l.tights → Marking g r v l.initial.marks l.initial.queue l.from l.to None → Marking g r v l.marks l.queue l.i l.end None)

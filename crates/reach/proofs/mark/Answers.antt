@@ -1,0 +1,22 @@
+-- `reach::mark` meets its contract: an edge changes nothing where it is slack or its head is marked; else its head is new.
+-- Assumes nothing.
+use native.Mathlib.Omega.{arith}
+use borrow.Author.Rules.{rules}
+use Rattle.reach.proofs.Marks.{met-still, room, met-new}
+use Rattle.reach.proofs.mark.Goals as goal
+
+pub returns-then-tight-ne1 : goal.returns-then-tight-ne1
+returns-then-tight-ne1 c = met-still _ _ _ _ _ c.requires.0 (λ t. absurd (omega arith))
+
+pub returns-then-marks-head-eq1 : goal.returns-then-marks-head-eq1
+returns-then-marks-head-eq1 c = met-still _ _ _ _ _ c.requires.0 (λ t. omega arith)
+
+pub bounds-queue-end : goal.bounds-queue-end
+bounds-queue-end c =
+    room c.args.marks.now c.args.queue.now c.args.end c.args.head c.args.tight c.requires.0 (omega arith) (λ h. omega arith)
+
+pub overflow_add-result : goal.overflow_add-result
+overflow_add-result c = omega (arith, element-write-queue c)
+
+pub returns : goal.returns
+returns c = met-new _ _ _ _ _ c.requires.0 (omega arith) (λ h. omega arith) (omega arith)

@@ -1,0 +1,52 @@
+-- `reach::spread` meets its contract: the edges out of the node from edge e on are late.
+-- Assumes nothing.
+use Prim.Native.Nat.{ℕ, ◌-◌, ◌≤◌, ◌<◌}
+use native.Mathlib.Omega.{arith}
+use borrow.Author.Rules.{rules}
+use Rattle.legal.specs.Loop.{Loop}
+use Rattle.reach.specs.Reached.{Marked}
+use Rattle.reach.specs.Tables.{TellsTight}
+use Rattle.reach.specs.Marking.{Queued, Marking, OutFrom}
+use Rattle.reach.proofs.Marks.{Halfway, half-first, half-next, half-end}
+use Rattle.reach.proofs.spread.Goals as goal
+
+pub loop-e-init : goal.loop-e-init
+loop-e-init c =
+    (c.requires.0.begins _ c.requires.2, c.requires.1, omega arith, λ g r v f t h k. half-first g r _ _ _ _ _ t v _ _ _ f _ c.requires.2 h k)
+
+pub bounds-heads-i : goal.bounds-heads-i
+bounds-heads-i c =
+    omega (arith, c.requires.0.few)
+
+pub bounds-tights-i : goal.bounds-tights-i
+bounds-tights-i c =
+    omega (arith, c.requires.0.few)
+
+pub mark-end-requires : goal.mark-end-requires
+mark-end-requires c =
+    (c.loop-e.invariant.1, c.requires.0.head_in c.loop-e.e (omega arith))
+
+pub bounds-next-i : goal.bounds-next-i
+bounds-next-i c =
+    omega (arith, c.requires.0.few)
+
+pub loop-e-smaller : goal.loop-e-smaller
+loop-e-smaller c =
+    omega (arith, c.requires.0.leads-on c.loop-e.e (omega arith))
+
+pub loop-e-preserved : goal.loop-e-preserved
+loop-e-preserved c =
+    let inside : c.loop-e.e < c.args.edges = omega arith in (
+      c.requires.0.leads-in c.loop-e.e inside,
+      c.mark-end.ensures.queued,
+      omega (arith, c.mark-end.ensures.grows),
+      λ g r v f t h k. half-next g r _ _ _ _ _ t v _ _ _ _ _ f _ _ c.loop-e.e inside c.mark-end.ensures (c.loop-e.invariant.3 g r v f t h k),
+    )
+
+pub returns : goal.returns
+returns c =
+    record {
+      queued = c.loop-e.invariant.1;
+      grows = c.loop-e.invariant.2;
+      spreads = λ g r v f t h k. half-end g r _ _ _ _ _ t v _ _ _ f _ c.loop-e.e (omega arith) (c.loop-e.invariant.3 g r v f t h k);
+    }

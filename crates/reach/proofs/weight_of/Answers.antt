@@ -1,0 +1,19 @@
+-- `reach::weight_of` meets its contract: the node itself waits first, so there is one to take off.
+-- Assumes nothing.
+use Prim.Native.Nat.{◌<◌}
+use native.Mathlib.Omega.{arith}
+use borrow.Author.Rules.{rules}
+use Rattle.reach.proofs.Marks.{queued-start, marking-start, weight_is}
+use Rattle.reach.proofs.weight_of.Goals as goal
+
+pub reach-reached-requires : goal.reach-reached-requires
+reach-reached-requires c =
+    (c.requires.2, queued-start c.args.v (omega arith), omega arith)
+
+pub overflow_sub-result : goal.overflow_sub-result
+overflow_sub-result c = omega (arith, c.reach-reached.ensures.grows)
+
+pub returns : goal.returns
+returns c g r n told =
+    let inside : c.args.v < g.graph.nodes = omega arith in
+    weight_is g r _ _ _ _ _ _ _ _ told _ c.reach-reached.ensures.queued (c.reach-reached.ensures.reaches g r _ told (λ l. omega (arith, n)) (marking-start c.args.v (omega arith) g r inside))

@@ -1,0 +1,22 @@
+-- `reader::classes` meets its contract: each class is read in turn.
+-- Assumes nothing.
+use mathlib.Core.Path.{◌≡◌, sym, ◌∙◌}
+use Prim.Native.Nat.{◌≤◌, ◌+◌, ◌*◌, ◌-◌}
+use native.Mathlib.Omega.{arith}
+use lib.ListN.{length}
+use borrow.Author.Rules.{rules}
+use borrow.Author.Tests.{not-true, not-false}
+use Rattle.form.specs.declared.Form.{Form}
+use Rattle.form.specs.Places.{with_classes}
+use Rattle.reader.specs.Tables.{class_step}
+use Rattle.reader.proofs.Laws.{Going, begin, turn, stop, finish}
+use Rattle.reader.proofs.classes.Given as goal
+
+abbrev pub invariant-loop-i : goal.invariant-loop-i
+invariant-loop-i l =
+    (length l.class ≡ 4)
+    × (l.next.at ≤ l.initial.next.at + 3 * l.i)
+    × ((f : Form) → Going (class_step l.s) l.end (record { form = with_classes f l.initial.class; l.next = l.initial.next }) 3 l.i (record { form = with_classes f l.class; l.next = l.next }))
+
+abbrev pub decreases-loop-i : goal.decreases-loop-i
+decreases-loop-i l = l.end - l.i

@@ -1,0 +1,22 @@
+-- `reader::nodes` meets its contract: each node is read in turn.
+-- Assumes nothing.
+use mathlib.Core.Path.{◌≡◌, sym, ◌∙◌}
+use Prim.Native.Nat.{◌≤◌, ◌+◌, ◌*◌, ◌-◌}
+use native.Mathlib.Omega.{arith}
+use lib.ListN.{length}
+use borrow.Author.Rules.{rules}
+use borrow.Author.Tests.{not-true, not-false}
+use Rattle.form.specs.declared.Form.{Form}
+use Rattle.form.specs.Places.{with_nodes}
+use Rattle.reader.specs.Tables.{node_step}
+use Rattle.reader.proofs.Laws.{Going, begin, turn, stop, finish}
+use Rattle.reader.proofs.nodes.Given as goal
+
+abbrev pub invariant-loop-i : goal.invariant-loop-i
+invariant-loop-i l =
+    (length l.node ≡ 64)
+    × (l.next.at ≤ l.initial.next.at + 6 * l.i)
+    × ((f : Form) → f.header.classes ≡ l.classes → Going (node_step l.s) l.end (record { form = with_nodes f l.initial.node; l.next = l.initial.next }) 6 l.i (record { form = with_nodes f l.node; l.next = l.next }))
+
+abbrev pub decreases-loop-i : goal.decreases-loop-i
+decreases-loop-i l = l.end - l.i

@@ -1,0 +1,23 @@
+-- `reader::starts` meets its contract: each start and retiming is read in turn.
+-- Assumes nothing.
+use mathlib.Core.Path.{◌≡◌, sym, ◌∙◌}
+use Prim.Native.Nat.{◌≤◌, ◌+◌, ◌*◌, ◌-◌}
+use native.Mathlib.Omega.{arith}
+use lib.ListN.{length}
+use borrow.Author.Rules.{rules}
+use borrow.Author.Tests.{not-true, not-false}
+use Rattle.form.specs.declared.Form.{Form}
+use Rattle.form.specs.Places.{with_starts}
+use Rattle.reader.specs.Tables.{start_step}
+use Rattle.reader.proofs.Laws.{Going, begin, turn, stop, finish}
+use Rattle.reader.proofs.starts.Given as goal
+
+abbrev pub invariant-loop-i : goal.invariant-loop-i
+invariant-loop-i l =
+    (length l.start ≡ 64)
+    × (length l.retiming ≡ 64)
+    × (l.next.at ≤ l.initial.next.at + 3 * l.i)
+    × ((f : Form) → f.header.length ≡ l.length → f.class ≡ l.class → f.node ≡ l.node → Going (start_step l.s) l.count (record { form = with_starts f l.initial.start l.initial.retiming; l.next = l.initial.next }) 3 l.i (record { form = with_starts f l.start l.retiming; l.next = l.next }))
+
+abbrev pub decreases-loop-i : goal.decreases-loop-i
+decreases-loop-i l = l.count - l.i

@@ -1,0 +1,15 @@
+-- `reader::tail` meets its contract.
+-- Assumes nothing.
+use mathlib.Core.Path.{sym}
+use lib.ListN.{length}
+use native.Mathlib.Omega.{arith}
+use borrow.Author.Tests.{lt-ltb, le-ltb}
+use Rattle.lists.specs.Pick.{pick_true, pick-false}
+use borrow.Author.Rules.{rules}
+use Rattle.reader.proofs.tail.Goals as goal
+
+pub returns-then-at-s : goal.returns-then-at-s
+returns-then-at-s c = sym (pick_true _ _ _ (lt-ltb c.args.next.at (length c.args.s.now) (omega (arith, c.if-at-s.true))))
+
+pub returns : goal.returns
+returns c = sym (pick-false _ _ _ (le-ltb c.args.next.at (length c.args.s.now) (omega (arith, c.if-at-s.false))))

@@ -1,0 +1,8 @@
+-- `rows::last_of` meets its contract.
+-- Assumes nothing.
+use native.Mathlib.Omega.{arith}
+use borrow.Author.Rules.{rules}
+use Rattle.rows.proofs.last_of.Goals as goal
+
+pub returns : goal.returns
+returns c = (omega arith, omega arith)

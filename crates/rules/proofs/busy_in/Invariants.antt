@@ -1,0 +1,12 @@
+-- `rules::busy_in` meets its contract: the nodes passed are summed up.
+-- Assumes nothing.
+use mathlib.Core.Path.{◌≡◌}
+use Prim.Native.Nat.{◌≤◌, ◌-◌, ◌*◌}
+use native.Mathlib.Omega.{arith}
+use borrow.Author.Rules.{rules}
+use Rattle.rules.specs.Busy.{busy_in}
+use Rattle.rules.proofs.Laws.{busy-none, busy-more}
+use Rattle.rules.proofs.busy_in.Given as goal
+
+abbrev pub invariant-loop-v : goal.invariant-loop-v
+invariant-loop-v l = (l.v ≤ l.nodes) × (l.busy ≤ 255 * l.v) × (l.busy ≡ busy_in l.length l.runs l.start l.class l.hold l.step l.v)

@@ -1,0 +1,14 @@
+-- `rules::node_spot` meets its contract: the start's spot, and step 1's where the operation runs over the end.
+-- Assumes nothing.
+use native.Mathlib.Omega.{arith}
+use borrow.Author.Rules.{rules}
+use Rattle.rules.specs.Lowest.{node-inside, node_over}
+use Rattle.rules.proofs.node_spot.Goals as goal
+
+pub returns-then-end-length : goal.returns-then-end-length
+returns-then-end-length c =
+    node-inside c.args.length c.args.runs.now c.args.start.now c.args.nodes c.args.class c.args.number c.args.step c.args.lowest _ c.lower_spot-lower.ensures (omega (arith, c.hold_of.ensures))
+
+pub returns : goal.returns
+returns c =
+    node_over c.args.length c.args.runs.now c.args.start.now c.args.nodes c.args.class c.args.number c.args.step c.args.lowest _ c.lower_spot-lower.ensures _ (omega (arith, c.hold_of.ensures)) c.lower_spot.ensures

@@ -1,0 +1,45 @@
+-- `search::search` meets its contract: the reader's refusal, else what becomes of the plan.
+-- Assumes nothing.
+use mathlib.Core.Path.{sym, ◌∙◌}
+use Prim.Native.Nat.{◌<◌}
+use native.Mathlib.Omega.{arith}
+use borrow.Author.Tests.{not-true, not-false}
+use borrow.Author.Rules.{rules}
+use Rattle.record.specs.Read.{read-good}
+use Rattle.record.specs.ReadFirst.{well-read}
+use Rattle.plans.specs.Tabled.{tabled-form}
+use Rattle.plans.proofs.Entries.{entry-unread, plan-taken, entry-planned}
+use Rattle.search.specs.Searching.{search_asked, search_form, search_turns}
+use Rattle.search.proofs.Plans.{search-writes}
+use Rattle.search.proofs.search.Goals.{Start}
+use Rattle.search.proofs.search.Goals as goal
+
+small : (c : Start) → c.args.size < 65536
+small c = search rules
+
+pub returns-then-not-is_fine : goal.returns-then-not-is_fine
+returns-then-not-is_fine c = entry-unread _ _ _ _ _ _ c.read-read.ensures (sym c.is_fine.ensures ∙ c.if-not-is_fine.true) _ c.none.ensures
+
+pub times_of-times-requires : goal.times_of-times-requires
+times_of-times-requires c =
+    read-good c.args.«record».now _ c.read-read.ensures (λ i. omega (arith, c.shared_slice_known-1.given i))
+    (sym i.before.is-fine.ensures ∙ not-false _ i.if1.false)
+
+pub search_plan-plan-requires : goal.search_plan-plan-requires
+search_plan-plan-requires c =
+    let w = read-good c.args.«record».now _ c.read-read.ensures (λ i. omega (arith, c.shared_slice_known-1.given i)) (sym i.before.is-fine.ensures ∙ not-false _ i.if1.false) in
+    (c.read-read.result.form, tabled-form _ _ w c.times_of-times.ensures)
+
+pub write_plan-requires : goal.write_plan-requires
+write_plan-requires c =
+    let good = sym c.is_fine.ensures ∙ c.if-not-is_fine.false in
+    let known = well-read c.args.«record».now _ c.read-read.ensures (λ i. omega (arith, c.shared_slice_known-1.given i)) good in
+    plan-taken (search_asked c.args.size) (search_form c.args.count c.args.size) (search_turns c.args.count c.args.size) c.args.«record».now c.args.out.now _ c.read-read.ensures known (search-writes c.args.count c.args.size (small (goal.at.write_plan-requires c).Start)) _
+    (c.search_plan-plan.ensures _ (tabled-form _ _ known.good c.times_of-times.ensures))
+
+pub returns : goal.returns
+returns c =
+    let good = sym c.is_fine.ensures ∙ c.if-not-is_fine.false in
+    let known = well-read c.args.«record».now _ c.read-read.ensures (λ i. omega (arith, c.shared_slice_known-1.given i)) good in
+    entry-planned (search_asked c.args.size) (search_form c.args.count c.args.size) (search_turns c.args.count c.args.size) c.args.«record».now c.args.out.now _ c.read-read.ensures known (search-writes c.args.count c.args.size (small (goal.at.returns c).Start)) _
+    (c.search_plan-plan.ensures _ (tabled-form _ _ known.good c.times_of-times.ensures)) _ _ c.write_plan.ensures

@@ -1,0 +1,15 @@
+-- `search::search_times` meets its contract: the rest of the search equals the whole.
+-- Assumes nothing.
+use Prim.Native.Nat.{◌+◌, ◌-◌}
+use native.Mathlib.Omega.{arith}
+use borrow.Author.Rules.{rules}
+use Rattle.form.specs.declared.Form.{Form}
+use Rattle.search.proofs.Going.{Begun, begun_first, Going, going-none, going-some, going_end, going-zero, going-turnable, going-long, going-turn}
+use Rattle.search.proofs.search_times.Given as goal
+
+abbrev pub invariant-loop-rotations : goal.invariant-loop-rotations
+invariant-loop-rotations l =
+    (f : Form) → Begun f l.edges l.from l.to l.delays l.initial.now → Going f l.count l.size l.now l.best l.steps l.rotations
+
+abbrev pub decreases-loop-rotations : goal.decreases-loop-rotations
+decreases-loop-rotations l = l.count + 1 - l.rotations

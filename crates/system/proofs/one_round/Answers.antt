@@ -1,0 +1,85 @@
+-- `system::one_round` meets its contract: what is left of the round gives what the whole round gives.
+-- Assumes nothing.
+use mathlib.Core.Logic.{⊎_elim}
+use Prim.Native.Nat.{ℕ, ◌≤◌, ◌<◌, ◌-◌}
+use mathlib.Core.List.{List}
+use lib.ListN.{get_or}
+use native.Mathlib.Omega.{arith}
+use borrow.Author.Rules.{rules}
+use Rattle.system.specs.System.{system_of}
+use Rattle.system.proofs.Laws.{Sofar, sofar-none, sofar-asks, sofar-holds, sofar-all}
+use Rattle.system.proofs.one_round.Goals.{In-loop-e, else-have-want, then-have-want}
+use Rattle.system.proofs.one_round.Goals as goal
+
+-- an edge's nodes are places of the values, which have room for one edge more in a u32
+record Ends (values : List ℕ) (u v : ℕ) : Type 0 where
+  tail-in : u < 64
+  head_in : v < 64
+  tail_low : get_or values u 0 ≤ 1073725440
+  head_low : get_or values v 0 ≤ 1073725440
+
+ends : (c : In-loop-e) → Ends c.loop-e.values (get_or c.args.tails.now c.loop-e.e 0) (get_or c.args.heads.now c.loop-e.e 0)
+unfolding system_of
+ends c =
+    let low = c.loop-e.invariant.0.bound 1056948480 c.requires.by_index in
+    record {
+      tail-in = omega (arith, c.requires.joined.tails c.loop-e.e c.loop-e-test.true);
+      head_in = omega (arith, c.requires.joined.heads c.loop-e.e c.loop-e-test.true);
+      tail_low = omega (arith, low (get_or c.args.tails.now c.loop-e.e 0));
+      head_low = omega (arith, low (get_or c.args.heads.now c.loop-e.e 0));
+    }
+
+pub loop-e-init : goal.loop-e-init
+loop-e-init c = (sofar-none _ _, search rules)
+
+pub overflow_cast-tail : goal.overflow_cast-tail
+overflow_cast-tail c = omega (arith, ends (goal.at.overflow_cast-tail c).In-loop-e)
+
+pub overflow_cast-head : goal.overflow_cast-head
+overflow_cast-head c = omega (arith, ends (goal.at.overflow_cast-head c).In-loop-e)
+
+pub offset_bounds-values-head : goal.offset_bounds-values-head
+offset_bounds-values-head c =
+    omega (arith, ends (goal.at.offset_bounds-values-head c).In-loop-e)
+
+pub bounds-values-head : goal.bounds-values-head
+bounds-values-head c =
+    omega (arith, ends (goal.at.bounds-values-head c).In-loop-e)
+
+pub overflow_add-have : goal.overflow_add-have
+overflow_add-have c =
+    omega (arith, ends (goal.at.overflow_add-have c).In-loop-e)
+
+pub offset_bounds-values-tail : goal.offset_bounds-values-tail
+offset_bounds-values-tail c =
+    omega (arith, ends (goal.at.offset_bounds-values-tail c).In-loop-e)
+
+pub bounds-values-tail : goal.bounds-values-tail
+bounds-values-tail c =
+    omega (arith, ends (goal.at.bounds-values-tail c).In-loop-e)
+
+pub overflow_add-want : goal.overflow_add-want
+overflow_add-want c =
+    omega (arith, ends (goal.at.overflow_add-want c).In-loop-e)
+
+pub offset_bounds-values-head-then-have-want : goal.offset_bounds-values-head-then-have-want
+offset_bounds-values-head-then-have-want c =
+    omega (arith, ends (goal.at.offset_bounds-values-head-then-have-want c).In-loop-e)
+
+pub bounds-values-head-then-have-want : goal.bounds-values-head-then-have-want
+bounds-values-head-then-have-want c =
+    omega (arith, ends (goal.at.bounds-values-head-then-have-want c).In-loop-e)
+
+pub loop-e-preserved : goal.loop-e-preserved
+unfolding system_of
+loop-e-preserved c =
+    (
+      elim c.if-have-want.branch [ then-have-want w ↦ sofar-asks _ _ _ _ _ c.loop-e.invariant.0 c.loop-e-test.true _ _ _ _ c.wide-gain.ensures.0 c.wide.ensures.0 c.wide.ensures.1 w.if-have-want.true w.1 w.2 | else-have-want w ↦ sofar-holds _ _ _ _ _ c.loop-e.invariant.0 c.loop-e-test.true _ _ _ _ c.wide-gain.ensures.0 c.wide.ensures.0 w.if-have-want.false w.1 w.2 ],
+      search rules,
+    )
+
+pub returns : goal.returns
+unfolding system_of
+returns c =
+    let a = sofar-all _ _ _ _ _ c.loop-e.invariant.0 c.loop-e-test.false in
+    record { is_raised = a.0; is_round = a.1; bound = λ b h v. omega (arith, c.loop-e.invariant.0.bound b h v) }

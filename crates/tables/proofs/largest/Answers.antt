@@ -1,0 +1,23 @@
+-- `tables::largest` meets its contract: the largest of the numbers passed is kept.
+-- Assumes nothing.
+use mathlib.Core.Path.{◌≡◌}
+use mathlib.Core.Logic.{⊎_elim}
+use Prim.Native.Nat.{◌≤◌, ◌-◌}
+use native.Mathlib.Omega.{arith}
+use Rattle.tables.specs.Most.{most_of, most-none, most-more}
+use borrow.Author.Rules.{rules}
+use Rattle.tables.proofs.largest.Goals.{else-most-here, then-most-here}
+use Rattle.tables.proofs.largest.Goals as goal
+
+pub loop-v-init : goal.loop-v-init
+loop-v-init c = omega (arith, most-none c.args.table.now)
+
+pub loop-v-preserved : goal.loop-v-preserved
+loop-v-preserved c =
+    let more = most-more c.args.table.now c.loop-v.v in
+    elim c.if-most-here.branch [ then-most-here w ↦ omega (arith, more) | else-most-here w ↦ omega (arith, more) ]
+
+pub returns : goal.returns
+returns c =
+    let e : c.loop-v.v ≡ c.args.count = omega arith in
+    rw (← e) c.loop-v.invariant.1

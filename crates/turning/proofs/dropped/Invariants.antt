@@ -1,0 +1,12 @@
+-- `turning::dropped` meets its contract: the starts passed are lowered.
+-- Assumes nothing.
+use mathlib.Core.Path.{◌≡◌}
+use Prim.Native.Nat.{◌≤◌, ◌-◌}
+use native.Mathlib.Omega.{arith}
+use borrow.Author.Rules.{rules}
+use Rattle.lists.specs.Filled.{filled, fill_none, fill_more}
+use Rattle.list_rule.specs.Rule.{start_number}
+use Rattle.turning.proofs.dropped.Given as goal
+
+abbrev pub invariant-loop-v : goal.invariant-loop-v
+invariant-loop-v l = (l.v ≤ l.nodes) × (l.lower ≡ filled 64 (λ u. start_number l.start u - l.steps) l.v)

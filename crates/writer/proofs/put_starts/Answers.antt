@@ -1,0 +1,44 @@
+-- `writer::put_starts` meets its contract.
+-- Assumes nothing.
+use mathlib.Core.Path.{◌≡◌}
+use Prim.Native.Nat.{◌≤◌, ◌+◌, ◌*◌, ◌-◌}
+use native.Mathlib.Omega.{arith}
+use lib.ListN.{get_or}
+use Rattle.laid.specs.Laid.{Laid}
+use Rattle.laid.specs.Rows.{rows}
+use Rattle.laid.specs.Laws.{nothing, row_more}
+use Rattle.form.specs.Places.{no_step}
+use Rattle.reader.proofs.Laws.{tests}
+use Rattle.writer.specs.Layout.{start_bytes}
+use Rattle.writer.proofs.put_starts.Goals as goal
+
+pub loop-i-init : goal.loop-i-init
+unfolding rows
+loop-i-init c = (search tests, search tests, nothing _ _)
+
+pub loop-i-preserved : goal.loop-i-preserved
+loop-i-preserved c =
+    (search tests, search tests, row_more _ _ _ _ _ _ _ _ c.loop-i.invariant.2 c.put_start-next.ensures.1)
+
+pub returns : goal.returns
+returns c =
+    let e : c.loop-i.i ≡ c.args.count = omega arith in
+    (omega arith, rw e at c.loop-i.invariant.2)
+
+pub offset_bounds-start-i : goal.offset_bounds-start-i
+offset_bounds-start-i c = search tests
+
+pub bounds-start-i : goal.bounds-start-i
+bounds-start-i c = search tests
+
+pub bounds-retiming-i : goal.bounds-retiming-i
+bounds-retiming-i c = search tests
+
+pub put_start-next-requires : goal.put_start-next-requires
+put_start-next-requires c = search tests
+
+pub overflow_add-i : goal.overflow_add-i
+overflow_add-i c = search tests
+
+pub loop-i-smaller : goal.loop-i-smaller
+loop-i-smaller c = search tests

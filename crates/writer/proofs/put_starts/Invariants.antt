@@ -1,0 +1,19 @@
+-- `writer::put_starts` meets its contract.
+-- Assumes nothing.
+use mathlib.Core.Path.{◌≡◌}
+use Prim.Native.Nat.{◌≤◌, ◌+◌, ◌*◌, ◌-◌}
+use native.Mathlib.Omega.{arith}
+use lib.ListN.{get_or}
+use Rattle.laid.specs.Laid.{Laid}
+use Rattle.laid.specs.Rows.{rows}
+use Rattle.laid.specs.Laws.{nothing, row_more}
+use Rattle.form.specs.Places.{no_step}
+use Rattle.reader.proofs.Laws.{tests}
+use Rattle.writer.specs.Layout.{start_bytes}
+use Rattle.writer.proofs.put_starts.Given as goal
+
+abbrev pub invariant-loop-i : goal.invariant-loop-i
+invariant-loop-i l = (l.i ≤ l.count) × (l.next ≡ l.at + 3 * l.i) × Laid l.initial.out l.at (rows (λ k. start_bytes (get_or l.start k no_step).0 (get_or l.retiming k 0)) l.i) l.out l.next
+
+abbrev pub decreases-loop-i : goal.decreases-loop-i
+decreases-loop-i l = l.count - l.i
