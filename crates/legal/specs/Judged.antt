@@ -28,9 +28,11 @@ pub data Judged (g : Loop) (p : Pair) : Refusal → Type 0 where
 module _ (g : Loop) (p : Pair) where
   told-bare : Judged g p Bare → p.length ≡ 0
   told-bare (bare z) = z
+  told-bare (rules _ _ _ x6) = elim x6 [ ]
 
   told-knot : Judged g p Knotted → (p.length ≢ 0) × ((es : List ℕ) × Knot g es)
   told-knot (knot n es k) = (n, (es, k))
+  told-knot (rules _ _ _ x6) = elim x6 [ ]
 
   told-dependence : (e : ℕ) → Judged g p (Dependence e) → (p.length ≢ 0) × Free g × LowestEdge g p e
   told-dependence e (rules r n free (dependence d t)) = (n, free, t)

@@ -19,7 +19,7 @@ pub loop-node-preserved : goal.loop-node-preserved
 loop-node-preserved c =
     (
       omega arith,
-      elim c.if-count-best.branch [ then-count-best w ↦ rw (w.1, w.2) (best-better _ _ _ _ _ _ c.loop-node.invariant.1 c.fewest_at-count.ensures w.if-count-best.true) | else-count-best w ↦ rw (w.1, w.2) (best-kept _ _ _ _ _ _ c.loop-node.invariant.1 c.fewest_at-count.ensures w.if-count-best.false) ],
+      elim c.if-count-best.branch [ then-count-best w ↦ rw (w.best-is, w.at-is) (best-better _ _ _ _ _ _ c.loop-node.invariant.1 c.fewest_at-count.ensures w.if-count-best.true) | else-count-best w ↦ rw (w.best-is, w.at-is) (best-kept _ _ _ _ _ _ c.loop-node.invariant.1 c.fewest_at-count.ensures w.if-count-best.false) ],
     )
 
 pub returns : goal.returns

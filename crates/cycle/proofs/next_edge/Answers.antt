@@ -14,11 +14,8 @@ use Rattle.system.specs.System.{System, system_of}
 use Rattle.cycle.specs.Row.{Gives}
 use Rattle.cycle.specs.Found.{wide}
 use Rattle.cycle.proofs.next_edge.Goals.{In-loop-e}
+use Rattle.cycle.proofs.next_edge.Invariants.{Left}
 use Rattle.cycle.proofs.next_edge.Goals as goal
-
--- the edge does not both leave the node and give the value
-abbrev Left : System → List ℕ → ℕ → ℕ → ℕ → Type 0
-Left s row node value e = s.graph.tail e ≡ node → Gives s row e value → ⊥
 
 pub loop-e-init : goal.loop-e-init
 loop-e-init c = (omega arith, below_none _)

@@ -15,6 +15,10 @@ use Rattle.cycle.specs.Row.{Gives}
 use Rattle.cycle.specs.Found.{wide}
 use Rattle.cycle.proofs.next_edge.Given as goal
 
+-- the edge does not both leave the node and give the value
+abbrev pub Left : System → List ℕ → ℕ → ℕ → ℕ → Type 0
+Left s row node value e = s.graph.tail e ≡ node → Gives s row e value → ⊥
+
 abbrev pub invariant-loop-e : goal.invariant-loop-e
 invariant-loop-e l =
     (l.e ≤ l.edges) × ((i : ℕ) → i < l.e → Left (wide l.edges l.tails l.heads l.gains l.costs) l.row l.node l.value i)

@@ -16,7 +16,7 @@ abbrev pub invariant-loop-i : goal.invariant-loop-i
 invariant-loop-i l =
     (length l.class ≡ 4)
     × (l.next.at ≤ l.initial.next.at + 3 * l.i)
-    × ((f : Form) → Going (class_step l.s) l.end (record { form = with_classes f l.initial.class; l.next = l.initial.next }) 3 l.i (record { form = with_classes f l.class; l.next = l.next }))
+    × ((f : Form) → Going (class_step l.s) l.end (record { form = with_classes f l.initial.class; next = l.initial.next }) 3 l.i (record { form = with_classes f l.class; next = l.next }))
 
 abbrev pub decreases-loop-i : goal.decreases-loop-i
 decreases-loop-i l = l.end - l.i

@@ -18,7 +18,7 @@ invariant-loop-i l =
     × (length l.to ≡ 256)
     × (length l.delays ≡ 256)
     × (l.next.at ≤ l.initial.next.at + 3 * l.i)
-    × ((f : Form) → f.header.nodes ≡ l.nodes → Going (edge_step l.s) l.end (record { form = with_edges f l.initial.from l.initial.to l.initial.delays; l.next = l.initial.next }) 3 l.i (record { form = with_edges f l.from l.to l.delays; l.next = l.next }))
+    × ((f : Form) → f.header.nodes ≡ l.nodes → Going (edge_step l.s) l.end (record { form = with_edges f l.initial.from l.initial.to l.initial.delays; next = l.initial.next }) 3 l.i (record { form = with_edges f l.from l.to l.delays; next = l.next }))
 
 abbrev pub decreases-loop-i : goal.decreases-loop-i
 decreases-loop-i l = l.end - l.i

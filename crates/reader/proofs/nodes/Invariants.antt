@@ -16,7 +16,7 @@ abbrev pub invariant-loop-i : goal.invariant-loop-i
 invariant-loop-i l =
     (length l.node ≡ 64)
     × (l.next.at ≤ l.initial.next.at + 6 * l.i)
-    × ((f : Form) → f.header.classes ≡ l.classes → Going (node_step l.s) l.end (record { form = with_nodes f l.initial.node; l.next = l.initial.next }) 6 l.i (record { form = with_nodes f l.node; l.next = l.next }))
+    × ((f : Form) → f.header.classes ≡ l.classes → Going (node_step l.s) l.end (record { form = with_nodes f l.initial.node; next = l.initial.next }) 6 l.i (record { form = with_nodes f l.node; next = l.next }))
 
 abbrev pub decreases-loop-i : goal.decreases-loop-i
 decreases-loop-i l = l.end - l.i

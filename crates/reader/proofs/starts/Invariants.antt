@@ -17,7 +17,7 @@ invariant-loop-i l =
     (length l.start ≡ 64)
     × (length l.retiming ≡ 64)
     × (l.next.at ≤ l.initial.next.at + 3 * l.i)
-    × ((f : Form) → f.header.length ≡ l.length → f.class ≡ l.class → f.node ≡ l.node → Going (start_step l.s) l.count (record { form = with_starts f l.initial.start l.initial.retiming; l.next = l.initial.next }) 3 l.i (record { form = with_starts f l.start l.retiming; l.next = l.next }))
+    × ((f : Form) → f.header.length ≡ l.length → f.class ≡ l.class → f.node ≡ l.node → Going (start_step l.s) l.count (record { form = with_starts f l.initial.start l.initial.retiming; next = l.initial.next }) 3 l.i (record { form = with_starts f l.start l.retiming; next = l.next }))
 
 abbrev pub decreases-loop-i : goal.decreases-loop-i
 decreases-loop-i l = l.count - l.i

@@ -74,7 +74,7 @@ pub loop-e-preserved : goal.loop-e-preserved
 unfolding system_of
 loop-e-preserved c =
     (
-      elim c.if-have-want.branch [ then-have-want w ↦ sofar-asks _ _ _ _ _ c.loop-e.invariant.0 c.loop-e-test.true _ _ _ _ c.wide-gain.ensures.0 c.wide.ensures.0 c.wide.ensures.1 w.if-have-want.true w.1 w.2 | else-have-want w ↦ sofar-holds _ _ _ _ _ c.loop-e.invariant.0 c.loop-e-test.true _ _ _ _ c.wide-gain.ensures.0 c.wide.ensures.0 w.if-have-want.false w.1 w.2 ],
+      elim c.if-have-want.branch [ then-have-want w ↦ sofar-asks _ _ _ _ _ c.loop-e.invariant.0 c.loop-e-test.true _ _ _ _ c.wide-gain.ensures.0 c.wide.ensures.0 c.wide.ensures.1 w.if-have-want.true w.values-is w.raised-is | else-have-want w ↦ sofar-holds _ _ _ _ _ c.loop-e.invariant.0 c.loop-e-test.true _ _ _ _ c.wide-gain.ensures.0 c.wide.ensures.0 w.if-have-want.false w.values-is w.raised-is ],
       search rules,
     )
 

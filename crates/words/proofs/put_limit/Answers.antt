@@ -30,4 +30,4 @@ returns-in-20 c = (omega arith, named_rule _ _ (rule_texts c.args.answer.now c.a
 
 pub returns-in_default : goal.returns-in_default
 unfolding rule_texts
-returns-in_default c = (omega arith, unnamed _ _ (rule_texts c.args.answer.now c.args.from c.args.to) (c.args.number - 11) (let past : 21 ≤ c.args.number = (not-lowest c.args.number 20 (not-lowest c.args.number 19 (not-lowest c.args.number 18 (not-lowest c.args.number 17 (not-lowest c.args.number 16 c.requires.1 c.in_default.rest.0.0.0.0.1) c.in_default.rest.0.0.0.1) c.in_default.rest.0.0.1) c.in_default.rest.0.1) c.in_default.rest.1) in omega (arith, past)))
+returns-in_default c = (omega arith, unnamed _ _ (rule_texts c.args.answer.now c.args.from c.args.to) (c.args.number - 11) (let past : 21 ≤ c.args.number = (not-lowest c.args.number 20 (not-lowest c.args.number 19 (not-lowest c.args.number 18 (not-lowest c.args.number 17 (not-lowest c.args.number 16 c.requires.1 c.before.in_default.in_default-own.rest.0.0.0.0.1) c.before.in_default.in_default-own.rest.0.0.0.1) c.before.in_default.in_default-own.rest.0.0.1) c.before.in_default.in_default-own.rest.0.1) c.before.in_default.in_default-own.rest.1) in omega (arith, past)))
