@@ -13,7 +13,7 @@ use borrow.Author.Count.{below_none, below_more}
 use Rattle.system.specs.System.{System, system_of}
 use Rattle.cycle.specs.Row.{Gives}
 use Rattle.cycle.specs.Found.{wide}
-use Rattle.cycle.proofs.next_edge.Goals.{In-loop-e}
+use Rattle.cycle.proofs.next_edge.Goals.{In-loop-e, then-tails-i+else-gives, else-tails-i}
 use Rattle.cycle.proofs.next_edge.Invariants.{Left}
 use Rattle.cycle.proofs.next_edge.Goals as goal
 
@@ -52,7 +52,7 @@ unfolding system_of
 loop-e-preserved c =
     (
       omega arith,
-      below_more _ _ c.loop-e.invariant.1 (⊎_elim (λ w t g. not-le_of_lt (leb-false _ _ (sym w.4.ensures.0 ∙ w.5.left)) g) (λ w t g. w.left t) c.if-tails-i.branch),
+      below_more _ _ c.loop-e.invariant.1 (elim c.if-tails-i.branch [ then-tails-i+else-gives w ↦ λ t g. not-le_of_lt (leb-false _ _ (sym w.gives.ensures.0 ∙ w.if-gives.false)) g | else-tails-i w ↦ λ t g. w.if-tails-i.false t ]),
     )
 
 pub returns : goal.returns

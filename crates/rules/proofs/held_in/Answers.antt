@@ -13,7 +13,7 @@ overflow_sub-result-then-length-steps c =
 
 pub returns-then-length-steps : goal.returns-then-length-steps
 returns-then-length-steps c =
-    let is = held-round c.args.length c.args.start c.args.hold c.args.step _ c.requires.0 c.requires.1 c.requires.2 c.requires.3 c.gap_of-gap.ensures (omega (arith, sub-result-2 c)) in
+    let is = held-round c.args.length c.args.start c.args.hold c.args.step _ c.requires.0 c.requires.1 c.requires.2 c.requires.3 c.gap_of-gap.ensures (omega (arith, overflow_sub-result-then-length-steps c)) in
     (is, omega (arith, is, held-few c.args.length c.args.start c.args.hold c.args.step))
 
 pub overflow_add-result : goal.overflow_add-result
