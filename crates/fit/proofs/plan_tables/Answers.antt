@@ -33,7 +33,7 @@ pub returns-then-not-fitting : goal.returns-then-not-fitting
 returns-then-not-fitting c f tabled same =
     let lent = tabled.lent in
     subst (Planned fit_of fitted_form unturned f) (sym c.uncounted-then-not-fitting.ensures)
-    (plan-unfit f (some-length f _ lent.timed c.if-times-eq0.false) _ (c.knot_of-knot.ensures _ lent.told) c.if-knot-gt0.false _ (c.fit_starts-fitting.ensures _ lent) c.if-not-fitting.true _)
+    (plan-unfit f (some-length f _ lent.timed c.if-times-eq0.false) _ (c.knot_of-knot.ensures _ lent.told) c.if-knot-gt0.false _ (c.fit_starts-fitting.ensures _ lent) (not-true _ c.if-not-fitting.true) _)
 
 pub crowded-crowded-requires : goal.crowded-crowded-requires
 crowded-crowded-requires c =
@@ -46,4 +46,4 @@ returns c f tabled same =
     let some = some-length f _ lent.timed c.if-times-eq0.false in
     subst (Planned fit_of fitted_form unturned f) (sym c.uncounted-2.ensures)
     (plan-fits f some _ (c.knot_of-knot.ensures _ lent.told) c.if-knot-gt0.false _ (c.fit_starts-fitting.ensures _ lent)
-    c.if-not-fitting.false same _ tabled.is _ (c.crowded-crowded.ensures _ _ lent.timed (seated-form f lent.good some)))
+    (not-false _ c.if-not-fitting.false) same _ tabled.is _ (c.crowded-crowded.ensures _ _ lent.timed (seated-form f lent.good some)))

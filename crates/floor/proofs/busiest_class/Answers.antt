@@ -25,8 +25,8 @@ loop-c-preserved c =
       search rules,
       λ g p timed.
           let is = part-is g p c.args.times timed c.loop-c.c _ _ c.nodes_on.ensures.0 c.units_part-here.ensures.0 in
-          elim c.if-part-here.branch [ then-part-here w ↦ rw (w.1, w.2) (busy-here g c.loop-c.c _ _ _ is (c.loop-c.invariant.1 g p timed) (omega (arith, w.if-part-here.true))) | else-part-here w ↦ rw (w.1, w.2) (busy-past g c.loop-c.c _ _ _ is (c.loop-c.invariant.1 g p timed) (omega (arith, w.if-part-here.false))) ],
-      elim c.if-part-here.branch [ then-part-here w ↦ omega (arith, w.1, c.units_part-here.ensures.1) | else-part-here w ↦ omega (arith, w.1) ],
+          elim c.if-part-here.branch [ then-part-here w ↦ rw (w.part-is, w.number-is) (busy-here g c.loop-c.c _ _ _ is (c.loop-c.invariant.1 g p timed) (omega (arith, w.if-part-here.true))) | else-part-here w ↦ rw (w.part-is, w.number-is) (busy-past g c.loop-c.c _ _ _ is (c.loop-c.invariant.1 g p timed) (omega (arith, w.if-part-here.false))) ],
+      elim c.if-part-here.branch [ then-part-here w ↦ omega (arith, w.part-is, c.units_part-here.ensures.1) | else-part-here w ↦ omega (arith, w.part-is) ],
     )
 
 pub returns : goal.returns

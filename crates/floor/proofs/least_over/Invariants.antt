@@ -16,7 +16,7 @@ use Rattle.floor.proofs.least_over.Given as goal
 abbrev pub invariant-loop-short : goal.invariant-loop-short
 invariant-loop-short l =
     (l.short ≤ l.long) × (l.long ≤ 512) × (1 ≤ l.long)
-    × ((g : Loop) → Paced g l.nodes l.edges l.from l.to l.delays l.costs → enough g l.known ≡ false → (enough g l.long ≡ true) × ((l : ℕ) → 1 ≤ l → l ≤ l.short → enough g l ≡ false))
+    × ((g : Loop) → Paced g l.nodes l.edges l.from l.to l.delays l.costs → enough g l.known ≡ false → (enough g l.long ≡ true) × ((k : ℕ) → 1 ≤ k → k ≤ l.short → enough g k ≡ false))
 
 abbrev pub decreases-loop-short : goal.decreases-loop-short
 decreases-loop-short l = l.long - l.short

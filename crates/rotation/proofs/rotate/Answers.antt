@@ -19,11 +19,11 @@ returns-then-not-is_fine c = entry-unread _ _ _ _ _ _ c.read-read.ensures (sym c
 pub times_of-times-requires : goal.times_of-times-requires
 times_of-times-requires c =
     read-good c.args.«record».now _ c.read-read.ensures (λ i. omega (arith, c.shared_slice_known-1.given i))
-    (sym i.before.is-fine.ensures ∙ not-false _ i.if1.false)
+    (sym c.is_fine.ensures ∙ c.if-not-is_fine.false)
 
 pub rotate_plan-plan-requires : goal.rotate_plan-plan-requires
 rotate_plan-plan-requires c =
-    let w = read-good c.args.«record».now _ c.read-read.ensures (λ i. omega (arith, c.shared_slice_known-1.given i)) (sym i.before.is-fine.ensures ∙ not-false _ i.if1.false) in
+    let w = read-good c.args.«record».now _ c.read-read.ensures (λ i. omega (arith, c.shared_slice_known-1.given i)) (sym c.is_fine.ensures ∙ c.if-not-is_fine.false) in
     (c.read-read.result.form, tabled-form _ _ w c.times_of-times.ensures)
 
 pub write_plan-requires : goal.write_plan-requires
