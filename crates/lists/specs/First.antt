@@ -1,6 +1,6 @@
 -- The first number of a run that passes a test.
 -- Assumes nothing.
-use Rattle.std.specs.Prelude.{◌≡◌, Bool, true, false, ◌⊎◌, ℕ, zero, suc, ◌+◌, ◌-◌, ◌≤◌, ◌<◌}
+use Rattle.std.specs.Prelude.{◌≡◌, Bool, true, false, ℕ, zero, suc, ◌+◌, ◌-◌, ◌≤◌, ◌<◌}
 use Rattle.std.proofs.Common.{sym, ◌∙◌, true≢false, ⊎_elim, arith, eq-or-lt_of_le}
 use Rattle.std.proofs.Math.Decide.{dec_lt}
 use Rattle.lists.specs.Pick.{pick, pick_ind}

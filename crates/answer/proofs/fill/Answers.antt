@@ -3,7 +3,6 @@
 use mathlib.Core.Path.{ap, ◌∙◌}
 use Rattle.answer.specs.declared.Details.{Details}
 use Rattle.answer.specs.Outcome.{told_of, told_list}
-use borrow.Author.Rules.{rules}
 use Rattle.answer.proofs.fill.Goals as goal
 
 pub returns : goal.returns

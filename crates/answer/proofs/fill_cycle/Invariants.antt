@@ -1,14 +1,11 @@
 -- `answer::fill_cycle` meets its contract.
 -- Assumes nothing.
-use mathlib.Core.Path.{◌≡◌, refl}
+use mathlib.Core.Path.{◌≡◌}
 use mathlib.Core.List.{map}
 use Prim.Native.Nat.{◌≤◌, ◌-◌}
 use lib.Seq.{sets}
-use native.Mathlib.Omega.{arith}
-use borrow.Author.Rules.{rules}
 use Rattle.lists.specs.Span.{span}
-use Rattle.answer.specs.Outcome.{cycle_edge, cycle_list}
-use Rattle.answer.proofs.Laws.{place-more}
+use Rattle.answer.specs.Outcome.{cycle_edge}
 use Rattle.answer.proofs.fill_cycle.Given as goal
 
 abbrev pub invariant-loop-i : goal.invariant-loop-i

@@ -4,7 +4,6 @@ use mathlib.Core.Path.{refl}
 use lib.ListN.{replicate}
 use Rattle.answer.specs.Outcome.{outcome_list}
 use Rattle.answer.proofs.Laws.{answer-whole}
-use borrow.Author.Rules.{rules}
 use Rattle.answer.proofs.tell.Goals as goal
 
 pub returns : goal.returns

@@ -2,7 +2,6 @@
 -- Assumes nothing.
 use Rattle.lists.specs.Pick.{pick}
 use Rattle.answer.specs.Outcome.{told_of}
-use borrow.Author.Rules.{rules}
 use Rattle.answer.proofs.told_of.Goals as goal
 
 pub returns-then-is_fine : goal.returns-then-is_fine

@@ -3,7 +3,6 @@
 use mathlib.Core.Path.{ap}
 use lib.Dec.{eqb}
 use Rattle.answer.specs.Refused.{fine}
-use borrow.Author.Rules.{rules}
 use Rattle.answer.proofs.Refusal.is_fine.Goals as goal
 
 pub returns : goal.returns

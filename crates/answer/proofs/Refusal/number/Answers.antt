@@ -2,7 +2,6 @@
 -- Assumes nothing.
 use mathlib.Core.Path.{sym, ap}
 use Rattle.answer.specs.Refused.{number_of}
-use borrow.Author.Rules.{rules}
 use Rattle.answer.proofs.Refusal.number.Goals as goal
 
 pub returns-in-None : goal.returns-in-None

@@ -4,7 +4,6 @@ use native.Mathlib.Omega.{arith}
 use borrow.Author.Tests.{le-ltb, lt-ltb}
 use Rattle.lists.specs.Pick.{pick}
 use Rattle.form.specs.Adding.{added_to, node_added}
-use borrow.Author.Rules.{rules}
 use Rattle.form.proofs.Form.add_node.Goals as goal
 
 pub returns-then-nodes-ge64 : goal.returns-then-nodes-ge64
