@@ -1,7 +1,6 @@
 -- `commands::command_of` meets its contract: each name is tried in turn.
 -- Assumes nothing.
 use mathlib.Core.Path.{sym, ◌∙◌}
-use borrow.Author.Rules.{rules}
 use Rattle.lists.specs.Pick.{pick_true, pick-false}
 use Rattle.commands.specs.Commands.{command_of, judge_name, floor_name, list_name, table_name, run_name, plain_name, help_name}
 use Rattle.commands.proofs.command_of.Goals as goal

@@ -1,11 +1,8 @@
 -- `commands::number_of` meets its contract: what is left makes of the number so far what the word is.
 -- Assumes nothing.
-use mathlib.Core.Path.{◌≡◌}
-use Prim.Native.Nat.{◌≤◌, ◌<◌, ◌-◌}
+use Prim.Native.Nat.{◌-◌}
 use native.Mathlib.Omega.{arith}
-use lib.ListN.{length, drop}
 use borrow.Author.Rules.{rules}
-use Rattle.commands.specs.Numbers.{number_from, number_in}
 use Rattle.commands.proofs.Laws.{no-digits, some-digits, number-none, number_more, number-whole}
 use Rattle.commands.proofs.number_of.Goals as goal
 

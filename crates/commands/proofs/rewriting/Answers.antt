@@ -1,7 +1,6 @@
 -- `commands::rewriting` meets its contract: each name is tried in turn.
 -- Assumes nothing.
 use mathlib.Core.Path.{sym, ◌∙◌}
-use borrow.Author.Rules.{rules}
 use Rattle.lists.specs.Pick.{pick_true, pick-false}
 use Rattle.commands.specs.Commands.{rewriting_of, fit_name, first_name, rotate_name, search_name}
 use Rattle.commands.proofs.rewriting.Goals as goal

@@ -1,12 +1,9 @@
 -- `commands::same` meets its contract: the bytes that are left are the same as the whole words are.
 -- Assumes nothing.
-use mathlib.Core.Path.{◌≡◌, refl}
+use mathlib.Core.Path.{◌≡◌}
 use Prim.Native.Nat.{◌≤◌, ◌-◌}
-use native.Mathlib.Omega.{arith}
 use lib.ListN.{length, drop}
-use borrow.Author.Rules.{rules}
 use Rattle.commands.specs.Commands.{same_word}
-use Rattle.commands.proofs.Laws.{other_length, other_byte, same_more, same_whole}
 use Rattle.commands.proofs.same.Given as goal
 
 abbrev pub invariant-loop-i : goal.invariant-loop-i

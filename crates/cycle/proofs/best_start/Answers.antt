@@ -1,11 +1,9 @@
 -- `cycle::best_start` meets its contract. The loop's invariant: the start is the best of the nodes passed.
 -- Assumes nothing.
 use mathlib.Core.Path.{◌≡◌}
-use mathlib.Core.Logic.{⊎_elim}
-use Prim.Native.Nat.{◌≤◌, ◌-◌}
+use Prim.Native.Nat.{◌-◌}
 use native.Mathlib.Omega.{arith}
-use borrow.Author.Rules.{rules}
-use Rattle.cycle.specs.Found.{wide, BestStart, best_none, best-better, best-kept}
+use Rattle.cycle.specs.Found.{best_none, best-better, best-kept}
 use Rattle.cycle.proofs.best_start.Goals.{else-count-best, then-count-best}
 use Rattle.cycle.proofs.best_start.Goals as goal
 
@@ -16,11 +14,10 @@ pub fewest_at-count-requires : goal.fewest_at-count-requires
 fewest_at-count-requires c = (c.requires.0, omega arith, omega arith, omega arith)
 
 pub loop-node-preserved : goal.loop-node-preserved
-loop-node-preserved c =
-    (
-      omega arith,
-      elim c.if-count-best.branch [ then-count-best w ↦ rw (w.best-is, w.at-is) (best-better _ _ _ _ _ _ c.loop-node.invariant.1 c.fewest_at-count.ensures w.if-count-best.true) | else-count-best w ↦ rw (w.best-is, w.at-is) (best-kept _ _ _ _ _ _ c.loop-node.invariant.1 c.fewest_at-count.ensures w.if-count-best.false) ],
-    )
+loop-node-preserved c = (
+  omega arith,
+  elim c.if-count-best.branch [ then-count-best w ↦ rw (w.best-is, w.at-is) (best-better _ _ _ _ _ _ c.loop-node.invariant.1 c.fewest_at-count.ensures w.if-count-best.true) | else-count-best w ↦ rw (w.best-is, w.at-is) (best-kept _ _ _ _ _ _ c.loop-node.invariant.1 c.fewest_at-count.ensures w.if-count-best.false) ],
+)
 
 pub returns : goal.returns
 returns c =

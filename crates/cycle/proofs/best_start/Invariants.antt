@@ -1,11 +1,7 @@
 -- `cycle::best_start` meets its contract. The loop's invariant: the start is the best of the nodes passed.
 -- Assumes nothing.
-use mathlib.Core.Path.{◌≡◌}
-use mathlib.Core.Logic.{⊎_elim}
 use Prim.Native.Nat.{◌≤◌, ◌-◌}
-use native.Mathlib.Omega.{arith}
-use borrow.Author.Rules.{rules}
-use Rattle.cycle.specs.Found.{wide, BestStart, best_none, best-better, best-kept}
+use Rattle.cycle.specs.Found.{wide, BestStart}
 use Rattle.cycle.proofs.best_start.Given as goal
 
 abbrev pub invariant-loop-node : goal.invariant-loop-node

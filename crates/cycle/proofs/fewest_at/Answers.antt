@@ -2,12 +2,11 @@
 -- fewer than k edges through the node loses.
 -- Assumes nothing.
 use mathlib.Core.Path.{◌≡◌}
-use Prim.Native.Nat.{◌≤◌, ◌<◌, ◌+◌, ◌-◌}
+use Prim.Native.Nat.{◌+◌, ◌-◌}
 use native.Mathlib.Omega.{arith}
-use borrow.Author.Rules.{rules}
 use Rattle.system.specs.System.{system_of}
 use Rattle.cycle.specs.Row.{Row, row-none, row_more}
-use Rattle.cycle.specs.Found.{wide, NoneBelow, none_below_one, none-below-more, loses}
+use Rattle.cycle.specs.Found.{wide, none_below_one, none-below-more, loses}
 use Rattle.cycle.proofs.fewest_at.Goals.{After-next_row-row}
 use Rattle.cycle.proofs.fewest_at.Goals as goal
 

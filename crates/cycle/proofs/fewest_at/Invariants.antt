@@ -1,13 +1,9 @@
 -- `cycle::fewest_at` meets its contract. The loop's invariant: the row is the one of k - 1 edges, and no closed walk of
 -- fewer than k edges through the node loses.
 -- Assumes nothing.
-use mathlib.Core.Path.{◌≡◌}
-use Prim.Native.Nat.{◌≤◌, ◌<◌, ◌+◌, ◌-◌}
-use native.Mathlib.Omega.{arith}
-use borrow.Author.Rules.{rules}
-use Rattle.system.specs.System.{system_of}
-use Rattle.cycle.specs.Row.{Row, row-none, row_more}
-use Rattle.cycle.specs.Found.{wide, NoneBelow, none_below_one, none-below-more, loses}
+use Prim.Native.Nat.{◌≤◌, ◌<◌, ◌-◌}
+use Rattle.cycle.specs.Row.{Row}
+use Rattle.cycle.specs.Found.{wide, NoneBelow}
 use Rattle.cycle.proofs.fewest_at.Given as goal
 
 abbrev pub invariant-loop-k : goal.invariant-loop-k

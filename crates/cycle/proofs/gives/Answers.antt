@@ -4,7 +4,6 @@ use mathlib.Core.Path.{refl}
 use Prim.Native.Nat.{◌+◌}
 use native.Mathlib.Omega.{arith}
 use borrow.Author.Tests.{leb-true}
-use borrow.Author.Rules.{rules}
 use Rattle.cycle.proofs.gives.Goals as goal
 
 pub returns : goal.returns

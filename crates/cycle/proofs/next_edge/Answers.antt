@@ -1,20 +1,14 @@
 -- `cycle::next_edge` meets its contract. The loop's invariant: no edge passed leaves the node and gives the value.
 -- Assumes nothing.
-use mathlib.Core.Path.{◌≡◌, sym, ◌∙◌}
-use mathlib.Core.Logic.{⊎_elim}
-use mathlib.Core.List.{List}
-use Prim.Native.Nat.{ℕ, ◌≤◌, ◌<◌, ◌-◌}
+use mathlib.Core.Path.{sym, ◌∙◌}
+use Prim.Native.Nat.{◌<◌, ◌-◌}
 use lib.ListN.{get_or}
 use native.Mathlib.Nat.{not-le_of_lt}
 use native.Mathlib.Omega.{arith}
-use borrow.Author.Rules.{rules}
 use borrow.Author.Tests.{leb-true, leb-false}
 use borrow.Author.Count.{below_none, below_more}
-use Rattle.system.specs.System.{System, system_of}
-use Rattle.cycle.specs.Row.{Gives}
-use Rattle.cycle.specs.Found.{wide}
+use Rattle.system.specs.System.{system_of}
 use Rattle.cycle.proofs.next_edge.Goals.{In-loop-e, then-tails-i+else-gives, else-tails-i}
-use Rattle.cycle.proofs.next_edge.Invariants.{Left}
 use Rattle.cycle.proofs.next_edge.Goals as goal
 
 pub loop-e-init : goal.loop-e-init
@@ -49,11 +43,10 @@ returns-then-gives c =
 
 pub loop-e-preserved : goal.loop-e-preserved
 unfolding system_of
-loop-e-preserved c =
-    (
-      omega arith,
-      below_more _ _ c.loop-e.invariant.1 (elim c.if-tails-i.branch [ then-tails-i+else-gives w ↦ λ t g. not-le_of_lt (leb-false _ _ (sym w.gives.ensures.0 ∙ w.if-gives.false)) g | else-tails-i w ↦ λ t g. w.if-tails-i.false t ]),
-    )
+loop-e-preserved c = (
+  omega arith,
+  below_more _ _ c.loop-e.invariant.1 (elim c.if-tails-i.branch [ then-tails-i+else-gives w ↦ λ t g. not-le_of_lt (leb-false _ _ (sym w.gives.ensures.0 ∙ w.if-gives.false)) g | else-tails-i w ↦ λ t g. w.if-tails-i.false t ]),
+)
 
 pub returns : goal.returns
 unfolding system_of

@@ -1,16 +1,9 @@
 -- `cycle::next_edge` meets its contract. The loop's invariant: no edge passed leaves the node and gives the value.
 -- Assumes nothing.
-use mathlib.Core.Path.{◌≡◌, sym, ◌∙◌}
-use mathlib.Core.Logic.{⊎_elim}
+use mathlib.Core.Path.{◌≡◌}
 use mathlib.Core.List.{List}
 use Prim.Native.Nat.{ℕ, ◌≤◌, ◌<◌, ◌-◌}
-use lib.ListN.{get_or}
-use native.Mathlib.Nat.{not-le_of_lt}
-use native.Mathlib.Omega.{arith}
-use borrow.Author.Rules.{rules}
-use borrow.Author.Tests.{leb-true, leb-false}
-use borrow.Author.Count.{below_none, below_more}
-use Rattle.system.specs.System.{System, system_of}
+use Rattle.system.specs.System.{System}
 use Rattle.cycle.specs.Row.{Gives}
 use Rattle.cycle.specs.Found.{wide}
 use Rattle.cycle.proofs.next_edge.Given as goal

@@ -1,12 +1,12 @@
 -- `cycle::next_row` meets its contract. The loop's invariant: the next row so far is what the edges passed bring.
 -- Assumes nothing.
 use mathlib.Core.Path.{◌≡◌}
-use Prim.Native.Nat.{◌≤◌, ◌<◌, ◌-◌}
-use lib.ListN.{length, get_or, length-set}
+use Prim.Native.Nat.{◌<◌, ◌-◌}
+use lib.ListN.{get_or, length-set}
 use native.Mathlib.Omega.{arith}
 use borrow.Author.Rules.{rules}
 use Rattle.system.specs.System.{system_of}
-use Rattle.cycle.specs.Row.{Carried, carried_none, carried-more}
+use Rattle.cycle.specs.Row.{carried_none, carried-more}
 use Rattle.cycle.specs.Found.{wide}
 use Rattle.cycle.proofs.next_row.Goals.{In-loop-e}
 use Rattle.cycle.proofs.next_row.Goals as goal
@@ -53,13 +53,12 @@ bounds-next-u-in-loop-e c =
 
 pub loop-e-preserved : goal.loop-e-preserved
 unfolding system_of
-loop-e-preserved c =
-    (
-      omega arith,
-      simp length-set (omega arith),
-      rw (c.larger.ensures, c.carried.ensures.0)
-          (carried-more (wide c.args.edges c.args.tails.now c.args.heads.now c.args.gains.now c.args.costs.now) c.loop-e.e c.args.row.now c.loop-e.next (omega (arith, ends (goal.at.loop-e-preserved c).In-loop-e)) (omega arith) c.loop-e.invariant.2),
-    )
+loop-e-preserved c = (
+  omega arith,
+  simp length-set (omega arith),
+  rw (c.larger.ensures, c.carried.ensures.0)
+      (carried-more (wide c.args.edges c.args.tails.now c.args.heads.now c.args.gains.now c.args.costs.now) c.loop-e.e c.args.row.now c.loop-e.next (omega (arith, ends (goal.at.loop-e-preserved c).In-loop-e)) (omega arith) c.loop-e.invariant.2),
+)
 
 pub returns : goal.returns
 returns c =

@@ -1,12 +1,9 @@
 -- `cycle::next_row` meets its contract. The loop's invariant: the next row so far is what the edges passed bring.
 -- Assumes nothing.
 use mathlib.Core.Path.{◌≡◌}
-use Prim.Native.Nat.{◌≤◌, ◌<◌, ◌-◌}
-use lib.ListN.{length, get_or, length-set}
-use native.Mathlib.Omega.{arith}
-use borrow.Author.Rules.{rules}
-use Rattle.system.specs.System.{system_of}
-use Rattle.cycle.specs.Row.{Carried, carried_none, carried-more}
+use Prim.Native.Nat.{◌≤◌, ◌-◌}
+use lib.ListN.{length}
+use Rattle.cycle.specs.Row.{Carried}
 use Rattle.cycle.specs.Found.{wide}
 use Rattle.cycle.proofs.next_row.Given as goal
 

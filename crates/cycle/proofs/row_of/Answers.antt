@@ -1,12 +1,10 @@
 -- `cycle::row_of` meets its contract. The loop's invariant: the row is the one of so many edges as turns.
 -- Assumes nothing.
 use mathlib.Core.Path.{◌≡◌}
-use Prim.Native.Nat.{◌≤◌, ◌-◌}
+use Prim.Native.Nat.{◌-◌}
 use native.Mathlib.Omega.{arith}
-use borrow.Author.Rules.{rules}
 use Rattle.system.specs.System.{system_of}
-use Rattle.cycle.specs.Row.{Row, row-none, row_more}
-use Rattle.cycle.specs.Found.{wide}
+use Rattle.cycle.specs.Row.{row-none, row_more}
 use Rattle.cycle.proofs.row_of.Goals as goal
 
 pub loop-k-init : goal.loop-k-init

@@ -2,14 +2,13 @@
 -- of the edges still to come leads back and is worth the value.
 -- Assumes nothing.
 use mathlib.Core.Path.{◌≡◌, refl}
-use Prim.Native.Nat.{ℕ, ◌≤◌, ◌<◌, ◌+◌, ◌-◌}
-use lib.ListN.{length, get_or, length-set}
+use Prim.Native.Nat.{ℕ, ◌<◌, ◌+◌, ◌-◌}
+use lib.ListN.{get_or, length-set}
 use native.Mathlib.Omega.{arith}
 use borrow.Author.Rules.{rules}
 use Rattle.answer.specs.Tally.{within-tallies}
 use Rattle.system.specs.System.{system_of}
 use Rattle.cycle.specs.Walked.{Walked, walked_none, walked_all, walked_more, edge_in}
-use Rattle.cycle.specs.Row.{roof}
 use Rattle.cycle.specs.Found.{wide}
 use Rattle.cycle.proofs.walk_of.Goals.{After-next_edge-e, In-loop-i}
 use Rattle.cycle.proofs.walk_of.Goals as goal

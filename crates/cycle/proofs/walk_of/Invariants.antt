@@ -1,14 +1,10 @@
 -- `cycle::walk_of` meets its contract. The loop's invariant: the edges so far lead from the start to the node, and a walk
 -- of the edges still to come leads back and is worth the value.
 -- Assumes nothing.
-use mathlib.Core.Path.{◌≡◌, refl}
-use Prim.Native.Nat.{ℕ, ◌≤◌, ◌<◌, ◌+◌, ◌-◌}
-use lib.ListN.{length, get_or, length-set}
-use native.Mathlib.Omega.{arith}
-use borrow.Author.Rules.{rules}
-use Rattle.answer.specs.Tally.{within-tallies}
-use Rattle.system.specs.System.{system_of}
-use Rattle.cycle.specs.Walked.{Walked, walked_none, walked_all, walked_more, edge_in}
+use mathlib.Core.Path.{◌≡◌}
+use Prim.Native.Nat.{◌≤◌, ◌-◌}
+use lib.ListN.{length}
+use Rattle.cycle.specs.Walked.{Walked}
 use Rattle.cycle.specs.Row.{roof}
 use Rattle.cycle.specs.Found.{wide}
 use Rattle.cycle.proofs.walk_of.Given as goal

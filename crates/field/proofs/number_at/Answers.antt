@@ -1,7 +1,7 @@
 -- `field::number_at` meets its contract: what is read so far is the number of the bytes from `left` on.
 -- Assumes nothing.
 use mathlib.Core.Path.{◌≡◌}
-use Prim.Native.Nat.{◌≤◌, ◌+◌, ◌-◌}
+use Prim.Native.Nat.{◌+◌, ◌-◌}
 use native.Mathlib.Omega.{arith}
 use borrow.Author.Rules.{rules}
 use Rattle.field.specs.Number.{number_at, number_small, number_more}

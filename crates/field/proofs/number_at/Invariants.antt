@@ -2,9 +2,7 @@
 -- Assumes nothing.
 use mathlib.Core.Path.{◌≡◌}
 use Prim.Native.Nat.{◌≤◌, ◌+◌, ◌-◌}
-use native.Mathlib.Omega.{arith}
-use borrow.Author.Rules.{rules}
-use Rattle.field.specs.Number.{number_at, number_small, number_more}
+use Rattle.field.specs.Number.{number_at}
 use Rattle.field.proofs.number_at.Given as goal
 
 abbrev pub invariant-loop-left : goal.invariant-loop-left

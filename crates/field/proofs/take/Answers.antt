@@ -2,9 +2,7 @@
 -- Assumes nothing.
 use mathlib.Core.Path.{sym, ◌∙◌}
 use native.Mathlib.Omega.{arith}
-use borrow.Author.Tests.{not-true, not-false}
 use Rattle.field.specs.Laws.{took-refused, took-short, took-low, took-high, took-good}
-use borrow.Author.Rules.{rules}
 use Rattle.field.proofs.take.Goals as goal
 
 pub returns-then-not-is_fine : goal.returns-then-not-is_fine

@@ -2,7 +2,6 @@
 -- Assumes nothing.
 use mathlib.Core.Path.{sym, ap}
 use Rattle.field.specs.Taking.{wrong_at}
-use borrow.Author.Rules.{rules}
 use Rattle.field.proofs.wrong_at.Goals as goal
 
 pub returns-in-Mark : goal.returns-in-Mark

@@ -1,6 +1,5 @@
 -- `fit::fit_limits` meets its contract: the tables are the limits of a loop's starts, solved and turned over.
 -- Assumes nothing.
-use borrow.Author.Tests.{not-true, not-false}
 use Rattle.fit.proofs.Starts.{under_top, tables-joined, tables-bounds, tables-top, tables-fit, tables-unfit}
 use Rattle.fit.proofs.fit_limits.Goals as goal
 
@@ -17,10 +16,13 @@ top_of-highest-requires c =
 
 pub turned-requires : goal.turned-requires
 turned-requires c =
-    let settled = c.if-not-solution.false in record { nodes_bound = (
+    let settled = c.if-not-solution.false in record {
+      nodes_bound = (
         (tables-bounds _ _ _ _ _ _ _ _ c.requires.1.1).1,
         tables-top _ _ _ _ _ _ _ _ c.requires.1.1 _ c.solve-solution.ensures settled _ c.top_of-highest.ensures,
-      ); by_index = under_top _ _ _ c.top_of-highest.ensures }
+      );
+      by_index = under_top _ _ _ c.top_of-highest.ensures;
+    }
 
 pub returns : goal.returns
 returns c g p d =

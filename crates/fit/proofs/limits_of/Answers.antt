@@ -1,14 +1,9 @@
 -- `fit::limits_of` meets its contract: the places passed are filled.
 -- Assumes nothing.
-use mathlib.Core.Path.{◌≡◌}
-use Prim.Native.Nat.{◌≤◌, ◌<◌, ◌-◌}
+use Prim.Native.Nat.{◌<◌, ◌-◌}
 use native.Mathlib.Omega.{arith}
-use lib.ListN.{length, get_or}
+use lib.ListN.{get_or}
 use borrow.Author.Rules.{rules}
-use Rattle.legal.specs.Loop.{Loop, Pair}
-use Rattle.tables.specs.Edges.{Told}
-use Rattle.tables.specs.Times.{Timed}
-use Rattle.fit.specs.Tables.{Limited}
 use Rattle.fit.proofs.Laws.{limited-none, limited-more, limited-all, gain-is, cost-is}
 use Rattle.fit.proofs.limits_of.Goals.{In-loop-e}
 use Rattle.fit.proofs.limits_of.Goals as goal

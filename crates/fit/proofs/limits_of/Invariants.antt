@@ -1,15 +1,12 @@
 -- `fit::limits_of` meets its contract: the places passed are filled.
 -- Assumes nothing.
 use mathlib.Core.Path.{◌≡◌}
-use Prim.Native.Nat.{◌≤◌, ◌<◌, ◌-◌}
-use native.Mathlib.Omega.{arith}
-use lib.ListN.{length, get_or}
-use borrow.Author.Rules.{rules}
+use Prim.Native.Nat.{◌≤◌, ◌-◌}
+use lib.ListN.{length}
 use Rattle.legal.specs.Loop.{Loop, Pair}
 use Rattle.tables.specs.Edges.{Told}
 use Rattle.tables.specs.Times.{Timed}
 use Rattle.fit.specs.Tables.{Limited}
-use Rattle.fit.proofs.Laws.{limited-none, limited-more, limited-all, gain-is, cost-is}
 use Rattle.fit.proofs.limits_of.Given as goal
 
 abbrev pub invariant-loop-e : goal.invariant-loop-e

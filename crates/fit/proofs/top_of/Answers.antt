@@ -1,12 +1,9 @@
 -- `fit::top_of` meets its contract: the largest of the values passed is kept.
 -- Assumes nothing.
 use mathlib.Core.Path.{◌≡◌}
-use mathlib.Core.Logic.{⊎_elim}
-use Prim.Native.Nat.{◌≤◌, ◌-◌}
+use Prim.Native.Nat.{◌-◌}
 use native.Mathlib.Omega.{arith}
-use lib.ListN.{take}
 use borrow.Author.Rules.{rules}
-use Rattle.lists.specs.Fold.{top}
 use Rattle.fit.proofs.Laws.{top-none, top-more}
 use Rattle.fit.proofs.top_of.Goals.{else-highest-value, then-highest-value}
 use Rattle.fit.proofs.top_of.Goals as goal

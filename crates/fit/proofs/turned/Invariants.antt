@@ -1,10 +1,7 @@
 -- `fit::turned` meets its contract: the places passed are filled.
 -- Assumes nothing.
-use mathlib.Core.Path.{◌≡◌, refl}
+use mathlib.Core.Path.{◌≡◌}
 use Prim.Native.Nat.{◌≤◌, ◌-◌}
-use native.Mathlib.Omega.{arith}
-use borrow.Author.Rules.{rules}
-use Rattle.lists.specs.Filled.{fill_none, fill_more}
 use Rattle.fit.specs.Tables.{turned_over}
 use Rattle.fit.proofs.turned.Given as goal
 

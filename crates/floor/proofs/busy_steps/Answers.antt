@@ -3,7 +3,6 @@
 use native.Mathlib.Omega.{arith}
 use native.Mathlib.Nat.{mul-one}
 use Rattle.floor.proofs.Laws.{product, hold-plain, hold-piped}
-use borrow.Author.Rules.{rules}
 use Rattle.floor.proofs.busy_steps.Goals as goal
 
 pub overflow_mul-result : goal.overflow_mul-result

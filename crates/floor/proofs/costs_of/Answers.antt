@@ -1,9 +1,8 @@
 -- `floor::costs_of` meets its contract: the places passed are filled.
 -- Assumes nothing.
-use mathlib.Core.Path.{◌≡◌}
-use Prim.Native.Nat.{ℕ, ◌-◌, ◌≤◌, ◌<◌}
+use Prim.Native.Nat.{◌-◌}
 use native.Mathlib.Omega.{arith}
-use lib.ListN.{length, get_or}
+use lib.ListN.{get_or}
 use Rattle.lists.specs.Place.{filled_more}
 use borrow.Author.Rules.{rules}
 use Rattle.floor.proofs.costs_of.Goals as goal

@@ -2,10 +2,7 @@
 -- Assumes nothing.
 use mathlib.Core.Path.{◌≡◌}
 use Prim.Native.Nat.{ℕ, ◌-◌, ◌≤◌, ◌<◌}
-use native.Mathlib.Omega.{arith}
 use lib.ListN.{length, get_or}
-use Rattle.lists.specs.Place.{filled_more}
-use borrow.Author.Rules.{rules}
 use Rattle.floor.proofs.costs_of.Given as goal
 
 abbrev pub invariant-loop-e : goal.invariant-loop-e

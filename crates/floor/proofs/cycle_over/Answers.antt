@@ -2,7 +2,6 @@
 -- Assumes nothing.
 use mathlib.Core.Path.{sym, ◌∙◌}
 use native.Mathlib.Omega.{arith}
-use borrow.Author.Rules.{rules}
 use Rattle.legal.specs.Knots.{unknotted-free}
 use Rattle.floor.specs.Least.{enough-over, over-short}
 use Rattle.floor.proofs.cycle_over.Goals as goal

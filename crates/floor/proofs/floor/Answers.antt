@@ -2,11 +2,9 @@
 -- Assumes nothing.
 use mathlib.Core.Path.{sym, ◌∙◌}
 use native.Mathlib.Omega.{arith}
-use borrow.Author.Tests.{not-true, not-false}
 use Rattle.record.specs.Read.{read-good}
 use Rattle.tables.specs.Lent.{lent-form}
 use Rattle.floor.proofs.Answers.{record-refused, record-floored}
-use borrow.Author.Rules.{rules}
 use Rattle.floor.proofs.floor.Goals as goal
 
 pub returns-then-not-is_fine : goal.returns-then-not-is_fine

@@ -13,7 +13,6 @@ use Rattle.floor.specs.Tables.{Measured}
 use Rattle.floor.specs.Named.{Attains}
 use Rattle.floor.proofs.Laws.{lent-edged, lent-costed, lent-paced}
 use Rattle.floor.proofs.Answers.{attains-latency, attains-units, attains-cycle, floored-alone, floored-cycle, Below, below-short}
-use borrow.Author.Rules.{rules}
 use Rattle.floor.proofs.free_floor.Goals.{After-parts_of-parts}
 use Rattle.floor.proofs.free_floor.Goals as goal
 

@@ -1,9 +1,9 @@
 -- `floor::gains_of` meets its contract: the places passed are filled.
 -- Assumes nothing.
-use mathlib.Core.Path.{◌≡◌, ap}
-use Prim.Native.Nat.{ℕ, ◌*◌, ◌-◌, ◌≤◌, ◌<◌}
+use mathlib.Core.Path.{ap}
+use Prim.Native.Nat.{ℕ, ◌*◌, ◌-◌, ◌≤◌}
 use native.Mathlib.Omega.{arith}
-use lib.ListN.{length as listLength, get_or}
+use lib.ListN.{get_or}
 use Rattle.lists.specs.Place.{filled_more}
 use Rattle.floor.proofs.Laws.{product}
 use borrow.Author.Rules.{rules}

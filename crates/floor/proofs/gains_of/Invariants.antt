@@ -1,12 +1,8 @@
 -- `floor::gains_of` meets its contract: the places passed are filled.
 -- Assumes nothing.
-use mathlib.Core.Path.{◌≡◌, ap}
+use mathlib.Core.Path.{◌≡◌}
 use Prim.Native.Nat.{ℕ, ◌*◌, ◌-◌, ◌≤◌, ◌<◌}
-use native.Mathlib.Omega.{arith}
 use lib.ListN.{length as listLength, get_or}
-use Rattle.lists.specs.Place.{filled_more}
-use Rattle.floor.proofs.Laws.{product}
-use borrow.Author.Rules.{rules}
 use Rattle.floor.proofs.gains_of.Given as goal
 
 abbrev pub invariant-loop-e : goal.invariant-loop-e

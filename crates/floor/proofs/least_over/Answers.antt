@@ -1,15 +1,13 @@
 -- `floor::least_over` meets its contract: no length up to the short one is enough, and the long one is.
 -- Assumes nothing.
-use mathlib.Core.Path.{◌≡◌, sym, ◌∙◌}
+use mathlib.Core.Path.{sym, ◌∙◌}
 use mathlib.Core.Bool.{true, false}
 use mathlib.Core.Logic.{◌≢◌}
-use Prim.Native.Nat.{ℕ, ◌-◌, ◌≤◌}
+use Prim.Native.Nat.{◌-◌}
 use native.Mathlib.Omega.{arith}
 use Rattle.lists.specs.Pick.{both_ways}
-use Rattle.legal.specs.Loop.{Loop}
 use Rattle.legal.specs.Knots.{unknotted-free}
-use Rattle.floor.specs.Tables.{Paced}
-use Rattle.floor.specs.Least.{enough, enough-512, short-less, least-cycle}
+use Rattle.floor.specs.Least.{enough-512, short-less, least-cycle}
 use borrow.Author.Rules.{rules}
 use Rattle.floor.proofs.least_over.Goals as goal
 
@@ -21,16 +19,15 @@ loop-short-preserved-then-is_enough c =
     (omega arith, omega arith, omega arith, λ g paced q. (sym (c.is_enough.ensures g paced.told paced.costed) ∙ c.if-is_enough.true, (c.loop-short.invariant.3 g paced q).1))
 
 pub loop-short-preserved : goal.loop-short-preserved
-loop-short-preserved c =
-    (
-      omega arith,
-      omega arith,
-      omega arith,
-      λ g paced q. (
-        (c.loop-short.invariant.3 g paced q).0,
-        λ k one z. short-less g paced.sound k _ z (sym (c.is_enough.ensures g paced.told paced.costed) ∙ c.if-is_enough.false),
-      ),
-    )
+loop-short-preserved c = (
+  omega arith,
+  omega arith,
+  omega arith,
+  λ g paced q. (
+    (c.loop-short.invariant.3 g paced q).0,
+    λ k one z. short-less g paced.sound k _ z (sym (c.is_enough.ensures g paced.told paced.costed) ∙ c.if-is_enough.false),
+  ),
+)
 
 pub returns : goal.returns
 returns c g paced q =

@@ -1,16 +1,11 @@
 -- `floor::least_over` meets its contract: no length up to the short one is enough, and the long one is.
 -- Assumes nothing.
-use mathlib.Core.Path.{◌≡◌, sym, ◌∙◌}
+use mathlib.Core.Path.{◌≡◌}
 use mathlib.Core.Bool.{true, false}
-use mathlib.Core.Logic.{◌≢◌}
 use Prim.Native.Nat.{ℕ, ◌-◌, ◌≤◌}
-use native.Mathlib.Omega.{arith}
-use Rattle.lists.specs.Pick.{both_ways}
 use Rattle.legal.specs.Loop.{Loop}
-use Rattle.legal.specs.Knots.{unknotted-free}
 use Rattle.floor.specs.Tables.{Paced}
-use Rattle.floor.specs.Least.{enough, enough-512, short-less, least-cycle}
-use borrow.Author.Rules.{rules}
+use Rattle.floor.specs.Least.{enough}
 use Rattle.floor.proofs.least_over.Given as goal
 
 abbrev pub invariant-loop-short : goal.invariant-loop-short

@@ -2,7 +2,6 @@
 -- Assumes nothing.
 use mathlib.Core.Path.{◌∙◌}
 use native.Mathlib.Omega.{arith}
-use borrow.Author.Rules.{rules}
 use Rattle.floor.specs.Bounds.{latency-one}
 use Rattle.floor.proofs.Answers.{latency-known, floor-of}
 use Rattle.floor.proofs.parts_of.Goals as goal

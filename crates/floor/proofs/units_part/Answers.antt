@@ -1,7 +1,6 @@
 -- `floor::units_part` meets its contract.
 -- Assumes nothing.
 use native.Mathlib.Omega.{arith}
-use borrow.Author.Rules.{rules}
 use Rattle.floor.specs.Busy.{rounded-up}
 use Rattle.floor.proofs.units_part.Goals as goal
 

@@ -2,8 +2,6 @@
 -- Assumes nothing.
 use mathlib.Core.Path.{sym, ◌∙◌}
 use native.Mathlib.Omega.{arith}
-use borrow.Author.Tests.{not-true, not-false}
-use borrow.Author.Rules.{rules}
 use Rattle.record.specs.Read.{read-good}
 use Rattle.tables.specs.Lent.{lent-form}
 use Rattle.judge.proofs.Laws.{record-refused, record-judged}
@@ -18,12 +16,11 @@ times_of-times-requires c =
     read-good c.args.«record».now _ c.read-read.ensures (λ i. omega (arith, c.shared_slice_known-1.given i)) (sym c.is_fine.ensures ∙ c.if-not-is_fine.false)
 
 pub judge_tables-requires : goal.judge_tables-requires
-judge_tables-requires c =
-    (
-      c.read-read.result.form,
-      lent-form _ _ (read-good c.args.«record».now _ c.read-read.ensures (λ i. omega (arith, c.shared_slice_known-1.given i)) (sym c.is_fine.ensures ∙ c.if-not-is_fine.false))
-          c.times_of-times.ensures,
-    )
+judge_tables-requires c = (
+  c.read-read.result.form,
+  lent-form _ _ (read-good c.args.«record».now _ c.read-read.ensures (λ i. omega (arith, c.shared_slice_known-1.given i)) (sym c.is_fine.ensures ∙ c.if-not-is_fine.false))
+      c.times_of-times.ensures,
+)
 
 pub returns : goal.returns
 returns c =

@@ -1,7 +1,6 @@
 -- `judge::judge_tables` meets its contract: no schedule, a knot, then the rules.
 -- Assumes nothing.
 use native.Mathlib.Omega.{arith}
-use borrow.Author.Rules.{rules}
 use Rattle.legal.specs.Loop.{loop_of, pair_of}
 use Rattle.tables.specs.Times.{no_length, some-length}
 use Rattle.tables.specs.Lent.{lent-ends, lent-sound}

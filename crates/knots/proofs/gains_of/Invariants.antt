@@ -2,10 +2,7 @@
 -- Assumes nothing.
 use mathlib.Core.Path.{◌≡◌}
 use Prim.Native.Nat.{ℕ, ◌*◌, ◌-◌, ◌≤◌, ◌<◌}
-use native.Mathlib.Omega.{arith}
 use lib.ListN.{length, get_or}
-use borrow.Author.Rules.{rules}
-use Rattle.lists.specs.Place.{filled_more}
 use Rattle.knots.proofs.gains_of.Given as goal
 
 abbrev pub invariant-loop-e : goal.invariant-loop-e

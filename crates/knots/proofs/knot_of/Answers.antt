@@ -1,6 +1,5 @@
 -- `knots::knot_of` meets its contract: the cycle beside the ranks.
 -- Assumes nothing.
-use borrow.Author.Rules.{rules}
 use Rattle.knots.proofs.knot_of.Goals as goal
 
 pub returns : goal.returns

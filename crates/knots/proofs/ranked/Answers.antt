@@ -1,6 +1,5 @@
 -- `knots::ranked` meets its contract: the tables hold the loop's system of knots, and its values are the ranks.
 -- Assumes nothing.
-use borrow.Author.Rules.{rules}
 use Rattle.knots.proofs.Laws.{ends-joined, ranks-found}
 use Rattle.knots.proofs.ranked.Goals as goal
 

@@ -1,10 +1,9 @@
 -- `links::links_of` meets its contract: the edges from e on are linked.
 -- Assumes nothing.
 use mathlib.Core.Path.{◌≡◌, subst}
-use Prim.Native.Nat.{◌+◌, ◌-◌, ◌≤◌, ◌<◌}
+use Prim.Native.Nat.{◌+◌, ◌-◌, ◌<◌}
 use native.Mathlib.Omega.{arith}
 use lib.ListN.{get_or}
-use borrow.Author.Rules.{rules}
 use Rattle.links.proofs.Laws.{LinkedFrom, linked-none, linked-more, linked-all}
 use Rattle.links.proofs.links_of.Goals.{After-key-1}
 use Rattle.links.proofs.links_of.Goals as goal

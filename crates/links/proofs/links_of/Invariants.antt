@@ -1,11 +1,8 @@
 -- `links::links_of` meets its contract: the edges from e on are linked.
 -- Assumes nothing.
-use mathlib.Core.Path.{◌≡◌, subst}
-use Prim.Native.Nat.{◌+◌, ◌-◌, ◌≤◌, ◌<◌}
-use native.Mathlib.Omega.{arith}
+use Prim.Native.Nat.{◌-◌, ◌≤◌}
 use lib.ListN.{get_or}
-use borrow.Author.Rules.{rules}
-use Rattle.links.proofs.Laws.{LinkedFrom, linked-none, linked-more, linked-all}
+use Rattle.links.proofs.Laws.{LinkedFrom}
 use Rattle.links.proofs.links_of.Given as goal
 
 abbrev pub invariant-loop-e : goal.invariant-loop-e

@@ -1,10 +1,10 @@
 -- `plans::steps_of` meets its contract: the numbers passed are steps.
 -- Assumes nothing.
-use mathlib.Core.Path.{◌≡◌, refl, ◌∙◌}
-use Prim.Native.Nat.{◌≤◌, ◌-◌}
+use mathlib.Core.Path.{refl, ◌∙◌}
+use Prim.Native.Nat.{◌-◌}
 use native.Mathlib.Omega.{arith}
 use borrow.Author.Rules.{rules}
-use Rattle.plans.proofs.Steps.{stepped, stepped-none, stepped-more, stepped-all}
+use Rattle.plans.proofs.Steps.{stepped-none, stepped-more, stepped-all}
 use Rattle.plans.proofs.steps_of.Goals as goal
 
 pub loop-v-init : goal.loop-v-init

@@ -1,10 +1,8 @@
 -- `plans::steps_of` meets its contract: the numbers passed are steps.
 -- Assumes nothing.
-use mathlib.Core.Path.{◌≡◌, refl, ◌∙◌}
+use mathlib.Core.Path.{◌≡◌}
 use Prim.Native.Nat.{◌≤◌, ◌-◌}
-use native.Mathlib.Omega.{arith}
-use borrow.Author.Rules.{rules}
-use Rattle.plans.proofs.Steps.{stepped, stepped-none, stepped-more, stepped-all}
+use Rattle.plans.proofs.Steps.{stepped}
 use Rattle.plans.proofs.steps_of.Given as goal
 
 abbrev pub invariant-loop-v : goal.invariant-loop-v

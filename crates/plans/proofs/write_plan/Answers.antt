@@ -2,8 +2,6 @@
 -- Assumes nothing.
 use mathlib.Core.Path.{◌≡◌, sym, subst, ◌∙◌}
 use mathlib.Core.Bool.{true}
-use borrow.Author.Tests.{not-true, not-false}
-use borrow.Author.Rules.{rules}
 use Rattle.answer.specs.Refused.{fine}
 use Rattle.form.specs.declared.Form.{Form}
 use Rattle.reader.specs.Reading.{read_form}

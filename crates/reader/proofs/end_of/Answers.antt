@@ -1,7 +1,6 @@
 -- `reader::end_of` meets its contract: the first of what is refused.
 -- Assumes nothing.
 use Rattle.reader.specs.Reading.{retiming_offset, end_of}
-use borrow.Author.Rules.{rules}
 use Rattle.reader.proofs.end_of.Goals as goal
 
 pub returns : goal.returns

@@ -2,7 +2,6 @@
 -- Assumes nothing.
 use mathlib.Core.Path.{sym, ◌∙◌}
 use Rattle.lists.specs.Pick.{pick_true, pick-false}
-use borrow.Author.Rules.{rules}
 use Rattle.reader.proofs.first_of.Goals as goal
 
 pub returns-then-is_fine : goal.returns-then-is_fine

@@ -3,7 +3,6 @@
 use native.Mathlib.Omega.{arith}
 use Rattle.form.specs.Places.{empty_form}
 use Rattle.reader.specs.Tables.{header_of}
-use borrow.Author.Rules.{rules}
 use Rattle.reader.proofs.header.Goals as goal
 
 pub returns : goal.returns

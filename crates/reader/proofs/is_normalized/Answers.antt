@@ -3,7 +3,6 @@
 use Rattle.lists.specs.Pick.{pick}
 use Rattle.reader.proofs.Laws.{tests}
 use Rattle.reader.specs.Reading.{normalized}
-use borrow.Author.Rules.{rules}
 use Rattle.reader.proofs.is_normalized.Goals as goal
 
 pub returns-then-length-eq0 : goal.returns-then-length-eq0

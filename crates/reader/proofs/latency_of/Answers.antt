@@ -8,7 +8,6 @@ use Rattle.form.specs.declared.Class.{Class}
 use Rattle.reader.proofs.Laws.{tests}
 use mathlib.Core.Path.{sym, ap}
 use lib.ListN.{get_or-eq_default}
-use borrow.Author.Rules.{rules}
 use Rattle.reader.proofs.latency_of.Goals as goal
 
 pub returns : goal.returns

@@ -1,15 +1,12 @@
 -- `reader::nodes` meets its contract: each node is read in turn.
 -- Assumes nothing.
-use mathlib.Core.Path.{◌≡◌, sym, ◌∙◌}
+use mathlib.Core.Path.{◌≡◌}
 use Prim.Native.Nat.{◌≤◌, ◌+◌, ◌*◌, ◌-◌}
-use native.Mathlib.Omega.{arith}
 use lib.ListN.{length}
-use borrow.Author.Rules.{rules}
-use borrow.Author.Tests.{not-true, not-false}
 use Rattle.form.specs.declared.Form.{Form}
 use Rattle.form.specs.Places.{with_nodes}
 use Rattle.reader.specs.Tables.{node_step}
-use Rattle.reader.proofs.Laws.{Going, begin, turn, stop, finish}
+use Rattle.reader.proofs.Laws.{Going}
 use Rattle.reader.proofs.nodes.Given as goal
 
 abbrev pub invariant-loop-i : goal.invariant-loop-i

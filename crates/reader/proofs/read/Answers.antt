@@ -2,8 +2,6 @@
 -- Assumes nothing.
 use mathlib.Core.Path.{sym, ◌∙◌}
 use native.Mathlib.Omega.{arith}
-use borrow.Author.Rules.{rules}
-use borrow.Author.Tests.{not-true, not-false}
 use Rattle.reader.proofs.Laws.{classes-end, nodes-end, edges-end, starts-end, answered-refused, answered-fine}
 use Rattle.reader.proofs.read.Goals as goal
 
@@ -16,12 +14,11 @@ edges-graph-requires c =
     (c.header-counts.ensures.few_edges, omega (arith, nodes-end _ _ c.header-counts.ensures _ c.classes-board.ensures _ c.nodes-operations.ensures))
 
 pub starts-schedule-requires : goal.starts-schedule-requires
-starts-schedule-requires c =
-    (
-      omega (arith, c.scheduled_nodes-scheduled.ensures.1, c.header-counts.ensures.few_nodes),
-      c.header-counts.ensures.short,
-      omega (arith, edges-end _ _ c.header-counts.ensures _ c.classes-board.ensures _ c.nodes-operations.ensures _ c.edges-graph.ensures),
-    )
+starts-schedule-requires c = (
+  omega (arith, c.scheduled_nodes-scheduled.ensures.1, c.header-counts.ensures.few_nodes),
+  c.header-counts.ensures.short,
+  omega (arith, edges-end _ _ c.header-counts.ensures _ c.classes-board.ensures _ c.nodes-operations.ensures _ c.edges-graph.ensures),
+)
 
 pub tail-left-requires : goal.tail-left-requires
 tail-left-requires c =

@@ -1,10 +1,9 @@
 -- `reader::some_zero` meets its contract.
 -- Assumes nothing.
-use mathlib.Core.Path.{◌≡◌}
-use Prim.Native.Nat.{◌≤◌, ◌-◌}
+use Prim.Native.Nat.{◌-◌}
 use native.Mathlib.Nat.{sub-zero}
 use borrow.Author.Rules.{rules}
-use Rattle.reader.specs.Reading.{zero_from, some_zero}
+use Rattle.reader.specs.Reading.{some_zero}
 use Rattle.reader.proofs.Laws.{zero-here, zero-later, zero-none}
 use Rattle.reader.proofs.some_zero.Goals as goal
 

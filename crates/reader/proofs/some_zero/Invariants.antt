@@ -2,10 +2,7 @@
 -- Assumes nothing.
 use mathlib.Core.Path.{◌≡◌}
 use Prim.Native.Nat.{◌≤◌, ◌-◌}
-use native.Mathlib.Nat.{sub-zero}
-use borrow.Author.Rules.{rules}
 use Rattle.reader.specs.Reading.{zero_from, some_zero}
-use Rattle.reader.proofs.Laws.{zero-here, zero-later, zero-none}
 use Rattle.reader.proofs.some_zero.Given as goal
 
 abbrev pub invariant-loop-i : goal.invariant-loop-i

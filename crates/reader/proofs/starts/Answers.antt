@@ -1,15 +1,11 @@
 -- `reader::starts` meets its contract: each start and retiming is read in turn.
 -- Assumes nothing.
-use mathlib.Core.Path.{◌≡◌, sym, ◌∙◌}
-use Prim.Native.Nat.{◌≤◌, ◌+◌, ◌*◌, ◌-◌}
+use mathlib.Core.Path.{sym, ◌∙◌}
+use Prim.Native.Nat.{◌-◌}
 use native.Mathlib.Omega.{arith}
-use lib.ListN.{length}
 use borrow.Author.Rules.{rules}
-use borrow.Author.Tests.{not-true, not-false}
-use Rattle.form.specs.declared.Form.{Form}
-use Rattle.form.specs.Places.{with_starts}
 use Rattle.reader.specs.Tables.{start_step}
-use Rattle.reader.proofs.Laws.{Going, begin, turn, stop, finish}
+use Rattle.reader.proofs.Laws.{begin, turn, stop, finish}
 use Rattle.reader.proofs.starts.Goals as goal
 
 pub loop-i-init : goal.loop-i-init
@@ -21,15 +17,14 @@ returns-then-not-is_fine c f k m n =
 
 pub loop-i-preserved : goal.loop-i-preserved
 unfolding start_step
-loop-i-preserved c =
-    (
-      search rules,
-      search rules,
-      omega arith,
-      λ f k m n.
-          turn _ _ _ _ _ _ (c.loop-i.invariant.3 f k m n) c.loop-i-test.true (sym c.is_fine.ensures ∙ c.if-not-is_fine.false) _ (rw (c.start_row-row.ensures.is, c.latency_of-latency.ensures, k, m, n))
-          (omega (arith, c.start_row-row.ensures.near)),
-    )
+loop-i-preserved c = (
+  search rules,
+  search rules,
+  omega arith,
+  λ f k m n.
+      turn _ _ _ _ _ _ (c.loop-i.invariant.3 f k m n) c.loop-i-test.true (sym c.is_fine.ensures ∙ c.if-not-is_fine.false) _ (rw (c.start_row-row.ensures.is, c.latency_of-latency.ensures, k, m, n))
+      (omega (arith, c.start_row-row.ensures.near)),
+)
 
 pub returns : goal.returns
 returns c f k m n = finish _ _ _ _ _ _ (c.loop-i.invariant.3 f k m n) c.loop-i-test.false

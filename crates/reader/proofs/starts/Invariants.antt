@@ -1,15 +1,12 @@
 -- `reader::starts` meets its contract: each start and retiming is read in turn.
 -- Assumes nothing.
-use mathlib.Core.Path.{◌≡◌, sym, ◌∙◌}
+use mathlib.Core.Path.{◌≡◌}
 use Prim.Native.Nat.{◌≤◌, ◌+◌, ◌*◌, ◌-◌}
-use native.Mathlib.Omega.{arith}
 use lib.ListN.{length}
-use borrow.Author.Rules.{rules}
-use borrow.Author.Tests.{not-true, not-false}
 use Rattle.form.specs.declared.Form.{Form}
 use Rattle.form.specs.Places.{with_starts}
 use Rattle.reader.specs.Tables.{start_step}
-use Rattle.reader.proofs.Laws.{Going, begin, turn, stop, finish}
+use Rattle.reader.proofs.Laws.{Going}
 use Rattle.reader.proofs.starts.Given as goal
 
 abbrev pub invariant-loop-i : goal.invariant-loop-i

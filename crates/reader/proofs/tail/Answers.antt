@@ -5,7 +5,6 @@ use lib.ListN.{length}
 use native.Mathlib.Omega.{arith}
 use borrow.Author.Tests.{lt-ltb, le-ltb}
 use Rattle.lists.specs.Pick.{pick_true, pick-false}
-use borrow.Author.Rules.{rules}
 use Rattle.reader.proofs.tail.Goals as goal
 
 pub returns-then-at-s : goal.returns-then-at-s

@@ -1,7 +1,6 @@
 -- `rows::last_of` meets its contract.
 -- Assumes nothing.
 use native.Mathlib.Omega.{arith}
-use borrow.Author.Rules.{rules}
 use Rattle.rows.proofs.last_of.Goals as goal
 
 pub returns : goal.returns

@@ -1,7 +1,6 @@
 -- `rows::last_start` meets its contract.
 -- Assumes nothing.
 use native.Mathlib.Omega.{arith}
-use borrow.Author.Rules.{rules}
 use Rattle.rows.proofs.last_start.Goals as goal
 
 pub returns-then-end-steps : goal.returns-then-end-steps

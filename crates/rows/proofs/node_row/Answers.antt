@@ -2,7 +2,6 @@
 -- Assumes nothing.
 use native.Mathlib.Omega.{arith}
 use Rattle.rows.specs.Rows.{node_at}
-use borrow.Author.Rules.{rules}
 use Rattle.rows.proofs.node_row.Goals as goal
 
 pub returns : goal.returns

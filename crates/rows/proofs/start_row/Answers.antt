@@ -2,7 +2,6 @@
 -- Assumes nothing.
 use native.Mathlib.Omega.{arith}
 use Rattle.rows.specs.Rows.{start_at}
-use borrow.Author.Rules.{rules}
 use Rattle.rows.proofs.start_row.Goals as goal
 
 pub returns : goal.returns

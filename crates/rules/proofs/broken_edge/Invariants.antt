@@ -1,17 +1,12 @@
 -- `rules::broken_edge` meets its contract: the first broken edge of those that are left is the first of all.
 -- Assumes nothing.
 use mathlib.Core.Path.{◌≡◌}
-use Prim.Native.Nat.{◌≤◌, ◌<◌, ◌-◌}
-use lib.ListN.{get_or}
-use native.Mathlib.Omega.{arith}
-use native.Mathlib.Nat.{sub_self}
-use borrow.Author.Rules.{rules}
+use Prim.Native.Nat.{◌≤◌, ◌-◌}
 use Rattle.lists.specs.First.{first_from}
 use Rattle.legal.specs.Loop.{Loop, Pair}
 use Rattle.legal.specs.Judging.{breaks, broken_edge}
 use Rattle.tables.specs.Edges.{Told}
 use Rattle.tables.specs.Times.{Timed}
-use Rattle.rules.proofs.Laws.{Sides, sides-are, edge-breaks, edge-keeps, left_here, left-next, left-none}
 use Rattle.rules.proofs.broken_edge.Given as goal
 
 abbrev pub invariant-loop-left : goal.invariant-loop-left

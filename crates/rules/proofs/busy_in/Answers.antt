@@ -1,10 +1,8 @@
 -- `rules::busy_in` meets its contract: the nodes passed are summed up.
 -- Assumes nothing.
 use mathlib.Core.Path.{◌≡◌}
-use Prim.Native.Nat.{◌≤◌, ◌-◌, ◌*◌}
+use Prim.Native.Nat.{◌-◌}
 use native.Mathlib.Omega.{arith}
-use borrow.Author.Rules.{rules}
-use Rattle.rules.specs.Busy.{busy_in}
 use Rattle.rules.proofs.Laws.{busy-none, busy-more}
 use Rattle.rules.proofs.busy_in.Goals as goal
 

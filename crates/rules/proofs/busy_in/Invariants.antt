@@ -2,10 +2,7 @@
 -- Assumes nothing.
 use mathlib.Core.Path.{◌≡◌}
 use Prim.Native.Nat.{◌≤◌, ◌-◌, ◌*◌}
-use native.Mathlib.Omega.{arith}
-use borrow.Author.Rules.{rules}
 use Rattle.rules.specs.Busy.{busy_in}
-use Rattle.rules.proofs.Laws.{busy-none, busy-more}
 use Rattle.rules.proofs.busy_in.Given as goal
 
 abbrev pub invariant-loop-v : goal.invariant-loop-v

@@ -1,6 +1,6 @@
 -- `rules::crowded` meets its contract: the lowest that the nodes passed enter is kept, and the lowest of all is the lowest there is.
 -- Assumes nothing.
-use Prim.Native.Nat.{◌≤◌, ◌<◌, ◌-◌}
+use Prim.Native.Nat.{◌<◌, ◌-◌}
 use native.Mathlib.Omega.{arith}
 use lib.ListN.{get_or}
 use borrow.Author.Rules.{rules}
@@ -34,11 +34,10 @@ node_spot-lowest-requires c =
     (c.requires.sound_times.most, at.0, at.1, within)
 
 pub loop-v-preserved : goal.loop-v-preserved
-loop-v-preserved c =
-    (
-      search rules,
-      λ g p timed seated. lowest-node g p _ timed seated c.loop-v.v c.loop-v.lowest _ c.loop-v-test.true (c.loop-v.invariant.1 g p timed seated) c.node_spot-lowest.ensures,
-    )
+loop-v-preserved c = (
+  search rules,
+  λ g p timed seated. lowest-node g p _ timed seated c.loop-v.v c.loop-v.lowest _ c.loop-v-test.true (c.loop-v.invariant.1 g p timed seated) c.node_spot-lowest.ensures,
+)
 
 -- the nodes passed are all
 all-nodes : (c : After-loop-v) (g : Loop) (p : Pair) → Timed g p c.args.times → Seated g p → Lowest g p (Entered g p g.graph.nodes) c.loop-v.lowest

@@ -1,14 +1,11 @@
 -- `rules::crowded` meets its contract: the lowest that the nodes passed enter is kept, and the lowest of all is the lowest there is.
 -- Assumes nothing.
-use Prim.Native.Nat.{◌≤◌, ◌<◌, ◌-◌}
-use native.Mathlib.Omega.{arith}
-use lib.ListN.{get_or}
-use borrow.Author.Rules.{rules}
+use Prim.Native.Nat.{◌≤◌, ◌-◌}
 use Rattle.legal.specs.Loop.{Loop, Pair}
 use Rattle.tables.specs.Times.{Timed}
 use Rattle.rules.specs.Busy.{Seated}
 use Rattle.rules.specs.Crowded.{Entered}
-use Rattle.rules.specs.Lowest.{Lowest, lowest-none, lowest-fewer, lowest-node, lowest-units, lowest-fine, starts-in}
+use Rattle.rules.specs.Lowest.{Lowest}
 use Rattle.rules.proofs.crowded.Given as goal
 
 abbrev pub invariant-loop-v : goal.invariant-loop-v

@@ -3,7 +3,6 @@
 use Prim.Native.Nat.{◌-◌}
 use native.Mathlib.Nat.{div-le_self}
 use native.Mathlib.Omega.{arith}
-use borrow.Author.Rules.{rules}
 use Rattle.rules.proofs.Laws.{held-zero, held-once, held-round, held-few, gap-small}
 use Rattle.rules.proofs.held_in.Goals as goal
 

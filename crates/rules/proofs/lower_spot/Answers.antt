@@ -2,7 +2,6 @@
 -- Assumes nothing.
 use mathlib.Core.Path.{◌∙◌, ap}
 use native.Mathlib.Omega.{arith}
-use borrow.Author.Rules.{rules}
 use Rattle.rules.specs.Busy.{busy_in}
 use Rattle.rules.specs.Lowest.{lower-none, lower-fits, lower-full}
 use Rattle.rules.proofs.lower_spot.Goals as goal

@@ -1,7 +1,6 @@
 -- `rules::node_spot` meets its contract: the start's spot, and step 1's where the operation runs over the end.
 -- Assumes nothing.
 use native.Mathlib.Omega.{arith}
-use borrow.Author.Rules.{rules}
 use Rattle.rules.specs.Lowest.{node-inside, node_over}
 use Rattle.rules.proofs.node_spot.Goals as goal
 

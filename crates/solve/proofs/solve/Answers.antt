@@ -2,7 +2,6 @@
 -- Assumes nothing.
 use Rattle.system.specs.System.{system_of}
 use Rattle.solve.proofs.Laws.{when-settled, when-unsettled}
-use borrow.Author.Rules.{rules}
 use Rattle.solve.proofs.solve.Goals as goal
 
 pub returns-then-result : goal.returns-then-result

@@ -1,13 +1,12 @@
 -- `system::one_round` meets its contract: what is left of the round gives what the whole round gives.
 -- Assumes nothing.
-use mathlib.Core.Logic.{⊎_elim}
 use Prim.Native.Nat.{ℕ, ◌≤◌, ◌<◌, ◌-◌}
 use mathlib.Core.List.{List}
 use lib.ListN.{get_or}
 use native.Mathlib.Omega.{arith}
 use borrow.Author.Rules.{rules}
 use Rattle.system.specs.System.{system_of}
-use Rattle.system.proofs.Laws.{Sofar, sofar-none, sofar-asks, sofar-holds, sofar-all}
+use Rattle.system.proofs.Laws.{sofar-none, sofar-asks, sofar-holds, sofar-all}
 use Rattle.system.proofs.one_round.Goals.{In-loop-e, else-have-want, then-have-want}
 use Rattle.system.proofs.one_round.Goals as goal
 
@@ -72,11 +71,10 @@ bounds-values-head-then-have-want c =
 
 pub loop-e-preserved : goal.loop-e-preserved
 unfolding system_of
-loop-e-preserved c =
-    (
-      elim c.if-have-want.branch [ then-have-want w ↦ sofar-asks _ _ _ _ _ c.loop-e.invariant.0 c.loop-e-test.true _ _ _ _ c.wide-gain.ensures.0 c.wide.ensures.0 c.wide.ensures.1 w.if-have-want.true w.values-is w.raised-is | else-have-want w ↦ sofar-holds _ _ _ _ _ c.loop-e.invariant.0 c.loop-e-test.true _ _ _ _ c.wide-gain.ensures.0 c.wide.ensures.0 w.if-have-want.false w.values-is w.raised-is ],
-      search rules,
-    )
+loop-e-preserved c = (
+  elim c.if-have-want.branch [ then-have-want w ↦ sofar-asks _ _ _ _ _ c.loop-e.invariant.0 c.loop-e-test.true _ _ _ _ c.wide-gain.ensures.0 c.wide.ensures.0 c.wide.ensures.1 w.if-have-want.true w.values-is w.raised-is | else-have-want w ↦ sofar-holds _ _ _ _ _ c.loop-e.invariant.0 c.loop-e-test.true _ _ _ _ c.wide-gain.ensures.0 c.wide.ensures.0 w.if-have-want.false w.values-is w.raised-is ],
+  search rules,
+)
 
 pub returns : goal.returns
 unfolding system_of

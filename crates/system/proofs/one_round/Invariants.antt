@@ -1,13 +1,8 @@
 -- `system::one_round` meets its contract: what is left of the round gives what the whole round gives.
 -- Assumes nothing.
-use mathlib.Core.Logic.{⊎_elim}
-use Prim.Native.Nat.{ℕ, ◌≤◌, ◌<◌, ◌-◌}
-use mathlib.Core.List.{List}
-use lib.ListN.{get_or}
-use native.Mathlib.Omega.{arith}
-use borrow.Author.Rules.{rules}
+use Prim.Native.Nat.{◌≤◌, ◌-◌}
 use Rattle.system.specs.System.{system_of}
-use Rattle.system.proofs.Laws.{Sofar, sofar-none, sofar-asks, sofar-holds, sofar-all}
+use Rattle.system.proofs.Laws.{Sofar}
 use Rattle.system.proofs.one_round.Given as goal
 
 abbrev pub invariant-loop-e : goal.invariant-loop-e

@@ -1,14 +1,12 @@
 -- `system::settle` meets its contract: the rounds that are left give what all of them give.
 -- Assumes nothing.
-use mathlib.Core.Path.{◌≡◌, refl}
-use Prim.Native.Nat.{ℕ, ◌+◌, ◌-◌, ◌*◌, ◌≤◌}
+use mathlib.Core.Path.{refl}
+use Prim.Native.Nat.{◌-◌, ◌*◌}
 use native.Mathlib.Omega.{arith}
 use borrow.Author.Rules.{rules}
-use borrow.Author.Tests.{not-true, not-false}
-use lib.ListN.{get_or}
 use Rattle.lists.specs.Place.{zeros-at}
 use Rattle.system.specs.System.{System, system_of}
-use Rattle.system.specs.Rounds.{settle_from, settled_of}
+use Rattle.system.specs.Rounds.{settled_of}
 use Rattle.system.proofs.Laws.{settle-on, settle-done, settle-out}
 use Rattle.system.proofs.settle.Goals.{In-loop-left}
 use Rattle.system.proofs.settle.Goals as goal
@@ -30,12 +28,11 @@ returns-then-not-raised c =
     settle-done (the_system (goal.at.returns-then-not-raised c).In-loop-left) _ _ _ _ _ c.one_round-raised.ensures.is_raised c.one_round-raised.ensures.is_round (omega arith) c.loop-left.invariant.1 c.if-not-raised.true
 
 pub loop-left-preserved : goal.loop-left-preserved
-loop-left-preserved c =
-    (
-      search rules,
-      settle-on (the_system (goal.at.loop-left-preserved c).In-loop-left) _ _ _ _ _ c.one_round-raised.ensures.is_raised c.one_round-raised.ensures.is_round (omega arith) c.loop-left.invariant.1 c.if-not-raised.false,
-      λ v. omega (arith, c.one_round-raised.ensures.bound ((c.args.nodes - c.loop-left.left) * 16776960) (λ u. omega (arith, c.loop-left.invariant.2 u)) v),
-    )
+loop-left-preserved c = (
+  search rules,
+  settle-on (the_system (goal.at.loop-left-preserved c).In-loop-left) _ _ _ _ _ c.one_round-raised.ensures.is_raised c.one_round-raised.ensures.is_round (omega arith) c.loop-left.invariant.1 c.if-not-raised.false,
+  λ v. omega (arith, c.one_round-raised.ensures.bound ((c.args.nodes - c.loop-left.left) * 16776960) (λ u. omega (arith, c.loop-left.invariant.2 u)) v),
+)
 
 pub returns : goal.returns
 returns c = settle-out _ _ _ _ c.loop-left.invariant.1 (omega arith)

@@ -1,15 +1,10 @@
 -- `system::settle` meets its contract: the rounds that are left give what all of them give.
 -- Assumes nothing.
-use mathlib.Core.Path.{◌≡◌, refl}
+use mathlib.Core.Path.{◌≡◌}
 use Prim.Native.Nat.{ℕ, ◌+◌, ◌-◌, ◌*◌, ◌≤◌}
-use native.Mathlib.Omega.{arith}
-use borrow.Author.Rules.{rules}
-use borrow.Author.Tests.{not-true, not-false}
 use lib.ListN.{get_or}
-use Rattle.lists.specs.Place.{zeros-at}
-use Rattle.system.specs.System.{System, system_of}
+use Rattle.system.specs.System.{system_of}
 use Rattle.system.specs.Rounds.{settle_from, settled_of}
-use Rattle.system.proofs.Laws.{settle-on, settle-done, settle-out}
 use Rattle.system.proofs.settle.Given as goal
 
 abbrev pub invariant-loop-left : goal.invariant-loop-left

@@ -1,11 +1,9 @@
 -- `tables::largest` meets its contract: the largest of the numbers passed is kept.
 -- Assumes nothing.
 use mathlib.Core.Path.{◌≡◌}
-use mathlib.Core.Logic.{⊎_elim}
-use Prim.Native.Nat.{◌≤◌, ◌-◌}
+use Prim.Native.Nat.{◌-◌}
 use native.Mathlib.Omega.{arith}
-use Rattle.tables.specs.Most.{most_of, most-none, most-more}
-use borrow.Author.Rules.{rules}
+use Rattle.tables.specs.Most.{most-none, most-more}
 use Rattle.tables.proofs.largest.Goals.{else-most-here, then-most-here}
 use Rattle.tables.proofs.largest.Goals as goal
 

@@ -1,11 +1,10 @@
 -- `tables::times_of` meets its contract: the places passed are filled.
 -- Assumes nothing.
-use mathlib.Core.Path.{◌≡◌}
-use Prim.Native.Nat.{◌≤◌, ◌<◌, ◌-◌}
+use Prim.Native.Nat.{◌<◌, ◌-◌}
 use native.Mathlib.Omega.{arith}
 use borrow.Author.Rules.{rules}
-use Rattle.lists.specs.Filled.{filled, fill_none, fill_more}
-use Rattle.form.specs.Places.{node_of, latency_of, start_of}
+use Rattle.lists.specs.Filled.{fill_none, fill_more}
+use Rattle.form.specs.Places.{node_of}
 use Rattle.tables.specs.Times.{times-are}
 use Rattle.tables.proofs.times_of.Goals.{In-loop-v}
 use Rattle.tables.proofs.times_of.Goals as goal

@@ -1,12 +1,9 @@
 -- `tables::times_of` meets its contract: the places passed are filled.
 -- Assumes nothing.
 use mathlib.Core.Path.{◌≡◌}
-use Prim.Native.Nat.{◌≤◌, ◌<◌, ◌-◌}
-use native.Mathlib.Omega.{arith}
-use borrow.Author.Rules.{rules}
-use Rattle.lists.specs.Filled.{filled, fill_none, fill_more}
+use Prim.Native.Nat.{◌≤◌, ◌-◌}
+use Rattle.lists.specs.Filled.{filled}
 use Rattle.form.specs.Places.{node_of, latency_of, start_of}
-use Rattle.tables.specs.Times.{times-are}
 use Rattle.tables.proofs.times_of.Given as goal
 
 abbrev pub invariant-loop-v : goal.invariant-loop-v

@@ -1,10 +1,7 @@
 -- `text::put_word` meets its contract: the loop's invariant is that its first bytes are laid.
 -- Assumes nothing.
-use mathlib.Core.Path.{◌≡◌}
-use Prim.Native.Nat.{◌≤◌, ◌+◌, ◌-◌}
+use Prim.Native.Nat.{◌-◌}
 use native.Mathlib.Omega.{arith}
-use lib.ListN.{length, take}
-use Rattle.laid.specs.Laid.{Laid}
 use Rattle.laid.specs.Laws.{nothing, same-long}
 use Rattle.text.proofs.Laws.{tests, byte_more, word-whole}
 use Rattle.text.proofs.put_word.Goals as goal

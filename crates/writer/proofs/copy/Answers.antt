@@ -1,11 +1,8 @@
 -- `writer::copy` meets its contract.
 -- Assumes nothing.
-use mathlib.Core.Path.{◌≡◌}
-use Prim.Native.Nat.{◌≤◌, ◌-◌}
-use lib.ListN.{length, take}
+use Prim.Native.Nat.{◌-◌}
 use native.Mathlib.Omega.{arith}
 use borrow.Author.Rules.{rules}
-use Rattle.laid.specs.Laid.{Laid}
 use Rattle.laid.specs.Laws.{nothing}
 use Rattle.writer.proofs.Laws.{byte_more, copied}
 use Rattle.writer.proofs.copy.Goals as goal

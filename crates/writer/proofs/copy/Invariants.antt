@@ -3,11 +3,7 @@
 use mathlib.Core.Path.{◌≡◌}
 use Prim.Native.Nat.{◌≤◌, ◌-◌}
 use lib.ListN.{length, take}
-use native.Mathlib.Omega.{arith}
-use borrow.Author.Rules.{rules}
 use Rattle.laid.specs.Laid.{Laid}
-use Rattle.laid.specs.Laws.{nothing}
-use Rattle.writer.proofs.Laws.{byte_more, copied}
 use Rattle.writer.proofs.copy.Given as goal
 
 abbrev pub invariant-loop-i : goal.invariant-loop-i

@@ -1,7 +1,6 @@
 -- `writer::put` meets its contract: Room, or all of the bytes.
 -- Assumes nothing.
 use native.Mathlib.Omega.{arith}
-use borrow.Author.Rules.{rules}
 use Rattle.writer.proofs.Laws.{cramped, fits}
 use Rattle.writer.proofs.put.Goals as goal
 

@@ -2,13 +2,10 @@
 -- Assumes nothing.
 use mathlib.Core.Path.{◌≡◌}
 use Prim.Native.Nat.{◌≤◌, ◌+◌, ◌*◌, ◌-◌}
-use native.Mathlib.Omega.{arith}
 use lib.ListN.{get_or}
 use Rattle.laid.specs.Laid.{Laid}
 use Rattle.laid.specs.Rows.{rows}
-use Rattle.laid.specs.Laws.{nothing, row_more}
 use Rattle.form.specs.Places.{no_class}
-use Rattle.reader.proofs.Laws.{tests}
 use Rattle.writer.specs.Layout.{class_bytes}
 use Rattle.writer.proofs.put_classes.Given as goal
 

@@ -2,12 +2,9 @@
 -- Assumes nothing.
 use mathlib.Core.Path.{◌≡◌}
 use Prim.Native.Nat.{◌≤◌, ◌+◌, ◌*◌, ◌-◌}
-use native.Mathlib.Omega.{arith}
 use lib.ListN.{get_or}
 use Rattle.laid.specs.Laid.{Laid}
 use Rattle.laid.specs.Rows.{rows}
-use Rattle.laid.specs.Laws.{nothing, row_more}
-use Rattle.reader.proofs.Laws.{tests}
 use Rattle.writer.specs.Layout.{edge_bytes}
 use Rattle.writer.proofs.put_edges.Given as goal
 

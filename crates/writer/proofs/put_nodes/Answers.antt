@@ -1,15 +1,11 @@
 -- `writer::put_nodes` meets its contract.
 -- Assumes nothing.
 use mathlib.Core.Path.{◌≡◌}
-use Prim.Native.Nat.{◌≤◌, ◌+◌, ◌*◌, ◌-◌}
+use Prim.Native.Nat.{◌-◌}
 use native.Mathlib.Omega.{arith}
-use lib.ListN.{get_or}
-use Rattle.laid.specs.Laid.{Laid}
 use Rattle.laid.specs.Rows.{rows}
 use Rattle.laid.specs.Laws.{nothing, row_more}
-use Rattle.form.specs.Places.{no_node}
 use Rattle.reader.proofs.Laws.{tests}
-use Rattle.writer.specs.Layout.{node_bytes}
 use Rattle.writer.proofs.put_nodes.Goals as goal
 
 pub loop-i-init : goal.loop-i-init

@@ -2,13 +2,10 @@
 -- Assumes nothing.
 use mathlib.Core.Path.{◌≡◌}
 use Prim.Native.Nat.{◌≤◌, ◌+◌, ◌*◌, ◌-◌}
-use native.Mathlib.Omega.{arith}
 use lib.ListN.{get_or}
 use Rattle.laid.specs.Laid.{Laid}
 use Rattle.laid.specs.Rows.{rows}
-use Rattle.laid.specs.Laws.{nothing, row_more}
 use Rattle.form.specs.Places.{no_node}
-use Rattle.reader.proofs.Laws.{tests}
 use Rattle.writer.specs.Layout.{node_bytes}
 use Rattle.writer.proofs.put_nodes.Given as goal
 

@@ -3,8 +3,6 @@
 use mathlib.Core.Path.{sym, ◌∙◌}
 use native.Mathlib.Omega.{arith}
 use lib.ListN.{replicate}
-use borrow.Author.Tests.{not-true, not-false}
-use borrow.Author.Rules.{rules}
 use Rattle.laid.specs.Laws.{same-long}
 use Rattle.writer.proofs.Laws.{front_long, front, refused, accepted}
 use Rattle.writer.proofs.write.Goals as goal
