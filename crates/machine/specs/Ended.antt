@@ -58,16 +58,16 @@ module _ (g : Loop) (p : Pair) (starts : List ℕ) (k : ℕ) where
   abbrev pub EndsAt : Machine → ℕ → Machine → Type 0
   EndsAt m₀ n m = ((m.refusal ≡ None) × Sofar g p starts k m₀ n m) ⊎ Halted m₀ m
 
-  ended-visit : (m₀ m r : Machine) (t v : ℕ) → 1 ≤ t → v < g.graph.nodes → Visited g p starts k t v m r → m.refusal ≡ None
+  ended-visit : (m₀ m : Machine) (t v : ℕ) (r : Machine) → 1 ≤ t → v < g.graph.nodes → Visited g p starts k t v m r → m.refusal ≡ None
       → Sofar g p starts k m₀ (t * g.graph.nodes + v) m
       → (fine r.refusal ≡ true → Sofar g p starts k m₀ (suc (t * g.graph.nodes + v)) r)
       → EndsAt m₀ (suc (t * g.graph.nodes + v)) r
   unfolding fine after_issue
-  ended-visit m₀ m r t v one l (idle q) none f next = inl (none, next (ap fine none))
-  ended-visit m₀ m r t v one l (goes q c) none f next = inl (refl, next refl)
-  ended-visit m₀ m r t v one l (early q late) none f next =
+  ended-visit m₀ m t v r one l (idle q) none f next = inl (none, next (ap fine none))
+  ended-visit m₀ m t v r one l (goes q c) none f next = inl (refl, next refl)
+  ended-visit m₀ m t v r one l (early q late) none f next =
       inr (record { step = t; node = v; step_some = one; node_in = l; issuing = q; sofar = sofar-halted m₀ m _ _ f; why = inl (refl, late) })
-  ended-visit m₀ m r t v one l (busy q timely full) none f next =
+  ended-visit m₀ m t v r one l (busy q timely full) none f next =
       inr (record { step = t; node = v; step_some = one; node_in = l; issuing = q; sofar = sofar-halted m₀ m _ _ f; why = inr (refl, timely, full) })
 
 module _ (g : Loop) (p : Pair) (s : Sound g) (b : Starting g p) (starts : List ℕ) (k : ℕ) (values finish : List ℕ)
@@ -78,7 +78,7 @@ module _ (g : Loop) (p : Pair) (s : Sound g) (b : Starting g p) (starts : List �
   unfolding fine
   ended-keeps t v m one l (inl h) =
       let before : fine m.refusal ≡ true = ap fine h.0 in
-      ended-visit g p starts k (blank g k values finish) m _ t v one l (visited g p starts k t v m before) h.0 h.1
+      ended-visit g p starts k (blank g k values finish) m t v _ one l (visited g p starts k t v m before) h.0 h.1
       (λ after. keeps g p s b starts k values finish room room' t v m one l before after h.1)
   ended-keeps t v m one l (inr h) =
       subst (EndsAt g p starts k (blank g k values finish) (suc (t * g.graph.nodes + v)))

@@ -5,7 +5,6 @@ use native.Mathlib.Omega.{arith}
 use borrow.Author.Rules.{rules}
 use Rattle.operands.proofs.Laws.{place-small}
 use Rattle.issue.proofs.Issuing.{sized_same, sized_set, issued-early, issued-busy, issued-goes}
-use Rattle.issue.proofs.issue.Goals.{After-struct_known-2-1}
 use Rattle.issue.proofs.issue.Goals as goal
 
 pub late_edge-late-requires : goal.late_edge-late-requires
@@ -36,18 +35,14 @@ value_of-value-requires c =
     (c.requires.linked, c.requires.room, c.requires.begins, c.requires.meant)
 
 -- its place is a small number, which lies in both buffers
-small : (p : After-struct_known-2-1) → p.args.iteration.0 * p.args.nodes + p.args.node < 2199023255552
-small p =
-    place-small p.args.iteration.0 p.args.nodes p.args.node (omega (arith, p.struct_known-2-1.given)) (omega (arith, p.ranges)) (omega (arith, p.ranges))
-
 pub overflow_mul-place : goal.overflow_mul-place
-overflow_mul-place c = omega (arith, small c)
+overflow_mul-place c = omega (arith, place-small c.args.iteration.0 c.args.nodes c.args.node (omega arith) (omega arith) (omega arith))
 
 pub overflow_add-place : goal.overflow_add-place
-overflow_add-place c = omega (arith, small c)
+overflow_add-place c = omega (arith, place-small c.args.iteration.0 c.args.nodes c.args.node (omega arith) (omega arith) (omega arith))
 
 pub offset_bounds-values-place : goal.offset_bounds-values-place
-offset_bounds-values-place c = omega (arith, small c)
+offset_bounds-values-place c = omega (arith, place-small c.args.iteration.0 c.args.nodes c.args.node (omega arith) (omega arith) (omega arith))
 
 pub bounds-values-place : goal.bounds-values-place
 bounds-values-place c = omega (arith, c.requires.node_in, c.requires.room.for_values)
@@ -56,7 +51,7 @@ pub overflow_add-finish : goal.overflow_add-finish
 overflow_add-finish c = omega (arith, c.requires.in_steps)
 
 pub offset_bounds-finish-place : goal.offset_bounds-finish-place
-offset_bounds-finish-place c = omega (arith, small (goal.at.offset_bounds-finish-place c).After-struct_known-2-1)
+offset_bounds-finish-place c = omega (arith, place-small c.args.iteration.0 c.args.nodes c.args.node (omega arith) (omega arith) (omega arith))
 
 pub bounds-finish-place : goal.bounds-finish-place
 bounds-finish-place c = omega (arith, c.requires.node_in, c.requires.for_finish)

@@ -10,7 +10,7 @@ use Rattle.operands.proofs.opening_of.Goals as goal
 pub returns-in-Add : goal.returns-in-Add
 unfolding opening
 returns-in-Add c =
-    let small : c.in-Add.constant ≡ word c.in-Add.constant = omega (arith, c.known_told-1.given.0) in
+    let small : c.in-Add.constant ≡ word c.in-Add.constant = omega arith in
     small ∙ sym (ap opening c.in-Add.is)
 
 pub returns-in-Sub : goal.returns-in-Sub
@@ -20,5 +20,5 @@ returns-in-Sub c = sym (ap opening c.in-Sub.is)
 pub returns-in-Mul : goal.returns-in-Mul
 unfolding opening
 returns-in-Mul c =
-    let small : c.in-Mul.constant ≡ word c.in-Mul.constant = omega (arith, c.known_told-in-Mul-1.given.0) in
+    let small : c.in-Mul.constant ≡ word c.in-Mul.constant = omega arith in
     small ∙ sym (ap opening c.in-Mul.is)

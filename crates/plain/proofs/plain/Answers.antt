@@ -14,7 +14,7 @@ returns-then-not-is_fine c =
 
 pub plain_form-requires : goal.plain_form-requires
 plain_form-requires c =
-    read-good c.args.«record».now _ c.read-read.ensures (λ i. omega (arith, c.shared_slice_known-1.given i))
+    read-good c.args.«record».now _ c.read-read.ensures (λ i. omega (arith, c.type_inv.«record» i))
     (sym c.is_fine.ensures ∙ c.if-not-is_fine.false)
 
 pub returns : goal.returns
