@@ -1,7 +1,6 @@
 // The stepping machine and the plain loop.
 #![tactic(auto)]
 
-
 // A step of a run, counted from 1. Body steps and iterations are counted apart.
 #[derive(Clone, Copy)]
 pub struct RunStep(pub u32);

@@ -1,13 +1,12 @@
 -- `issue::free_unit` meets its contract: the first free unit of those that are left is the first of all.
 -- Assumes nothing.
-use mathlib.Core.Path.{◌≡◌}
-use Prim.Native.Nat.{◌+◌, ◌*◌, ◌≤◌, ◌-◌}
+use Prim.Native.Nat.{◌+◌, ◌*◌, ◌-◌}
 use native.Mathlib.Omega.{arith}
 use native.Mathlib.Nat.{sub-zero}
 use borrow.Author.Rules.{rules}
 use borrow.Author.Tests.{le-leb, lt-leb}
 use lib.ListN.{get_or}
-use Rattle.lists.specs.First.{first_from, first_next, first-here, first-end}
+use Rattle.lists.specs.First.{first_next, first-here, first-end}
 use Rattle.issue.specs.Tables.{is_free_at}
 use Rattle.issue.proofs.free_unit.Goals as goal
 
@@ -24,13 +23,12 @@ returns-then-free-number c =
     c.loop-x.invariant.1
 
 pub loop-x-preserved : goal.loop-x-preserved
-loop-x-preserved c =
-    (
-      search rules,
-      first_next (is_free_at c.args.free.now c.args.number c.args.step.0) c.args.units c.loop-x.x _ c.loop-x-test.true
-          (lt-leb (get_or c.args.free.now (8 * c.args.number + c.loop-x.x) 0) c.args.step.0 (omega arith))
-          c.loop-x.invariant.1,
-    )
+loop-x-preserved c = (
+  search rules,
+  first_next (is_free_at c.args.free.now c.args.number c.args.step.0) c.args.units c.loop-x.x _ c.loop-x-test.true
+      (lt-leb (get_or c.args.free.now (8 * c.args.number + c.loop-x.x) 0) c.args.step.0 (omega arith))
+      c.loop-x.invariant.1,
+)
 
 pub returns : goal.returns
 returns c =

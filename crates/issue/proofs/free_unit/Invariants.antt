@@ -1,13 +1,8 @@
 -- `issue::free_unit` meets its contract: the first free unit of those that are left is the first of all.
 -- Assumes nothing.
 use mathlib.Core.Path.{◌≡◌}
-use Prim.Native.Nat.{◌+◌, ◌*◌, ◌≤◌, ◌-◌}
-use native.Mathlib.Omega.{arith}
-use native.Mathlib.Nat.{sub-zero}
-use borrow.Author.Rules.{rules}
-use borrow.Author.Tests.{le-leb, lt-leb}
-use lib.ListN.{get_or}
-use Rattle.lists.specs.First.{first_from, first_next, first-here, first-end}
+use Prim.Native.Nat.{◌≤◌, ◌-◌}
+use Rattle.lists.specs.First.{first_from}
 use Rattle.issue.specs.Tables.{is_free_at}
 use Rattle.issue.proofs.free_unit.Given as goal
 

@@ -1,7 +1,6 @@
 -- `issue::is_late` meets its contract: the place lies among the finish steps.
 -- Assumes nothing.
 use native.Mathlib.Omega.{arith}
-use borrow.Author.Rules.{rules}
 use Rattle.operands.proofs.Laws.{back-small, back_in}
 use Rattle.issue.proofs.Laws.{missing-before, missing-none, missing-some}
 use Rattle.issue.proofs.is_late.Goals as goal

@@ -1,8 +1,7 @@
 -- `issue::issue` meets its contract: what the tables tell decides as the machine does, and its places are stored.
 -- Assumes nothing.
-use Prim.Native.Nat.{◌+◌, ◌*◌, ◌<◌}
+use Prim.Native.Nat.{◌+◌, ◌*◌}
 use native.Mathlib.Omega.{arith}
-use borrow.Author.Rules.{rules}
 use Rattle.operands.proofs.Laws.{place-small}
 use Rattle.issue.proofs.Issuing.{sized_same, sized_set, issued-early, issued-busy, issued-goes}
 use Rattle.issue.proofs.issue.Goals as goal

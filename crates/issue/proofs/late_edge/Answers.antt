@@ -1,15 +1,9 @@
 -- `issue::late_edge` meets its contract: the first late edge from the walk's edge on is the first of all.
 -- Assumes nothing.
-use mathlib.Core.Path.{◌≡◌, sym, ◌∙◌}
-use mathlib.Core.List.{List}
-use Prim.Native.Nat.{ℕ, ◌-◌, ◌≤◌}
+use mathlib.Core.Path.{sym, ◌∙◌}
+use Prim.Native.Nat.{◌-◌}
 use native.Mathlib.Omega.{arith}
-use borrow.Author.Rules.{rules}
-use Rattle.form.specs.declared.Operation.{Operation}
-use Rattle.legal.specs.Loop.{Loop, Pair}
-use Rattle.operands.specs.Tables.{Tells, Follows}
-use Rattle.issue.specs.Late.{Seeking, seeking-first, seeking-next, seeking-here, seeking-end, late-missing}
-use Rattle.machine.specs.Run.{iteration as iterationIn}
+use Rattle.issue.specs.Late.{seeking-first, seeking-next, seeking-here, seeking-end, late-missing}
 use Rattle.issue.proofs.late_edge.Goals as goal
 
 pub loop-e-init : goal.loop-e-init
@@ -42,13 +36,12 @@ loop-e-smaller c =
     omega (arith, c.requires.0.leads-on c.loop-e.e (omega arith))
 
 pub loop-e-preserved : goal.loop-e-preserved
-loop-e-preserved c =
-    (
-      c.requires.0.leads-in c.loop-e.e (omega arith),
-      λ g p starts k v o t f is.
-          let w = c.loop-e.invariant.1 g p starts k v o t f is in
-          seeking-next g p starts k _ _ v o _ _ f c.loop-e.e (omega (arith, t.all_edges)) (late-missing g p starts k _ _ v _ _ _ _ _ c.loop-e.e t is c.loop-e-test.true w ∙ sym c.is_late.ensures ∙ c.if-is_late.false) w,
-    )
+loop-e-preserved c = (
+  c.requires.0.leads-in c.loop-e.e (omega arith),
+  λ g p starts k v o t f is.
+      let w = c.loop-e.invariant.1 g p starts k v o t f is in
+      seeking-next g p starts k _ _ v o _ _ f c.loop-e.e (omega (arith, t.all_edges)) (late-missing g p starts k _ _ v _ _ _ _ _ c.loop-e.e t is c.loop-e-test.true w ∙ sym c.is_late.ensures ∙ c.if-is_late.false) w,
+)
 
 pub returns : goal.returns
 returns c =

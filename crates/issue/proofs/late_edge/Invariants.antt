@@ -1,14 +1,12 @@
 -- `issue::late_edge` meets its contract: the first late edge from the walk's edge on is the first of all.
 -- Assumes nothing.
-use mathlib.Core.Path.{◌≡◌, sym, ◌∙◌}
+use mathlib.Core.Path.{◌≡◌}
 use mathlib.Core.List.{List}
 use Prim.Native.Nat.{ℕ, ◌-◌, ◌≤◌}
-use native.Mathlib.Omega.{arith}
-use borrow.Author.Rules.{rules}
 use Rattle.form.specs.declared.Operation.{Operation}
 use Rattle.legal.specs.Loop.{Loop, Pair}
 use Rattle.operands.specs.Tables.{Tells, Follows}
-use Rattle.issue.specs.Late.{Seeking, seeking-first, seeking-next, seeking-here, seeking-end, late-missing}
+use Rattle.issue.specs.Late.{Seeking}
 use Rattle.machine.specs.Run.{iteration as iterationIn}
 use Rattle.issue.proofs.late_edge.Given as goal
 

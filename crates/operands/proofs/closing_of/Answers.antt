@@ -1,7 +1,6 @@
 -- `operands::closing_of` meets its contract: one line for each operation.
 -- Assumes nothing.
 use mathlib.Core.Path.{sym, ◌∙◌, ap}
-use borrow.Author.Rules.{rules}
 use Rattle.operands.specs.Combined.{closing}
 use Rattle.operands.proofs.closing_of.Goals as goal
 

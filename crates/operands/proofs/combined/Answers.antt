@@ -1,7 +1,6 @@
 -- `operands::combined` meets its contract: one line for each operation.
 -- Assumes nothing.
 use mathlib.Core.Path.{sym, ◌∙◌, ap}
-use borrow.Author.Rules.{rules}
 use Rattle.operands.specs.Combined.{combined}
 use Rattle.operands.proofs.combined.Goals as goal
 

@@ -2,7 +2,6 @@
 -- Assumes nothing.
 use mathlib.Core.Path.{◌≡◌, sym, ◌∙◌, ap}
 use native.Mathlib.Omega.{arith}
-use borrow.Author.Rules.{rules}
 use Rattle.machine.specs.Values.{word}
 use Rattle.operands.specs.Combined.{opening}
 use Rattle.operands.proofs.opening_of.Goals as goal

@@ -1,6 +1,5 @@
 -- `operands::subtracted` meets its contract: the first operand, or one taken away.
 -- Assumes nothing.
-use borrow.Author.Rules.{rules}
 use Rattle.lists.specs.Pick.{pick}
 use Rattle.operands.specs.Combined.{subtracted}
 use Rattle.operands.proofs.subtracted.Goals as goal

@@ -1,13 +1,9 @@
 -- `operands::value_of` meets its contract: the operands that are left finish the whole.
 -- Assumes nothing.
 use mathlib.Core.Path.{◌∙◌}
-use Prim.Native.Nat.{ℕ, ◌-◌, ◌≤◌, ◌<◌}
+use Prim.Native.Nat.{◌-◌, ◌<◌}
 use native.Mathlib.Omega.{arith}
-use borrow.Author.Rules.{rules}
-use Rattle.legal.specs.Loop.{Loop}
-use Rattle.machine.specs.Values.{buffer}
-use Rattle.operands.specs.Tables.{Tells, Follows}
-use Rattle.operands.proofs.Laws.{Walking, walking-first, walking_on, walking-end}
+use Rattle.operands.proofs.Laws.{walking-first, walking_on, walking-end}
 use Rattle.operands.proofs.value_of.Goals as goal
 
 pub loop-e-init : goal.loop-e-init

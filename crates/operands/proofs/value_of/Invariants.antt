@@ -1,13 +1,10 @@
 -- `operands::value_of` meets its contract: the operands that are left finish the whole.
 -- Assumes nothing.
-use mathlib.Core.Path.{◌∙◌}
-use Prim.Native.Nat.{ℕ, ◌-◌, ◌≤◌, ◌<◌}
-use native.Mathlib.Omega.{arith}
-use borrow.Author.Rules.{rules}
+use Prim.Native.Nat.{ℕ, ◌-◌, ◌≤◌}
 use Rattle.legal.specs.Loop.{Loop}
 use Rattle.machine.specs.Values.{buffer}
 use Rattle.operands.specs.Tables.{Tells, Follows}
-use Rattle.operands.proofs.Laws.{Walking, walking-first, walking_on, walking-end}
+use Rattle.operands.proofs.Laws.{Walking}
 use Rattle.operands.proofs.value_of.Given as goal
 
 abbrev pub invariant-loop-e : goal.invariant-loop-e

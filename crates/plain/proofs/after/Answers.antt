@@ -1,6 +1,5 @@
 -- `plain::after` meets its contract: one test.
 -- Assumes nothing.
-use borrow.Author.Rules.{rules}
 use borrow.Author.Tests.{le-ltb, lt-ltb}
 use Rattle.lists.specs.Pick.{pick}
 use Rattle.plain.specs.Turns.{next}

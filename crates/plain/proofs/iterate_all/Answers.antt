@@ -3,12 +3,11 @@
 use Prim.Native.Nat.{ℕ, ◌+◌, ◌*◌, ◌≤◌, ◌<◌}
 use native.Mathlib.Omega.{arith}
 use lib.ListN.{length, get_or}
-use borrow.Author.Rules.{rules}
 use Rattle.lists.specs.Quotient.{rows-below}
 use Rattle.legal.specs.Loop.{loop_of, graph_of}
 use Rattle.operands.specs.Given.{form-tells, links-fit, links-begin, links-follow}
 use Rattle.operands.proofs.Laws.{place-small}
-use Rattle.plain.proofs.Laws.{left_at, next-less, Come, come-first, come-more, come-last}
+use Rattle.plain.proofs.Laws.{next-less, come-first, come-more, come-last}
 use Rattle.plain.proofs.iterate_all.Goals.{In-loop-turn}
 use Rattle.plain.proofs.iterate_all.Goals as goal
 
@@ -56,13 +55,12 @@ pub bounds-links-v : goal.bounds-links-v
 bounds-links-v c = node-small (goal.at.bounds-links-v c).In-loop-turn
 
 pub value_of-value-requires : goal.value_of-value-requires
-value_of-value-requires c =
-    (
-      links-fit c.args.form _ _ c.links_of-links.ensures.chains c.requires.well_formed,
-      record { for_starts = c.requires.nodes_in_bounds.0; for_values = row_in (goal.at.value_of-value-requires c).In-loop-turn },
-      links-begin c.args.form _ _ c.links_of-links.ensures.chains _ (node-small (goal.at.value_of-value-requires c).In-loop-turn),
-      (loop_of c.args.form, (_, form-tells c.args.form, links-follow c.args.form _ _ c.links_of-links.ensures.chains _ (node-small (goal.at.value_of-value-requires c).In-loop-turn))),
-    )
+value_of-value-requires c = (
+  links-fit c.args.form _ _ c.links_of-links.ensures.chains c.requires.well_formed,
+  record { for_starts = c.requires.nodes_in_bounds.0; for_values = row_in (goal.at.value_of-value-requires c).In-loop-turn },
+  links-begin c.args.form _ _ c.links_of-links.ensures.chains _ (node-small (goal.at.value_of-value-requires c).In-loop-turn),
+  (loop_of c.args.form, (_, form-tells c.args.form, links-follow c.args.form _ _ c.links_of-links.ensures.chains _ (node-small (goal.at.value_of-value-requires c).In-loop-turn))),
+)
 
 pub overflow_add-values : goal.overflow_add-values
 overflow_add-values c = omega (arith, place-small c.loop-turn.turn.iteration c.args.form.header.nodes (node (goal.at.overflow_add-values c).In-loop-turn) (omega arith) (omega arith) (omega (arith, node-small (goal.at.overflow_add-values c).In-loop-turn)))

@@ -1,14 +1,7 @@
 -- `plain::iterate_all` meets its contract: the values so far are stored.
 -- Assumes nothing.
-use Prim.Native.Nat.{ℕ, ◌+◌, ◌*◌, ◌≤◌, ◌<◌}
-use native.Mathlib.Omega.{arith}
-use lib.ListN.{length, get_or}
-use borrow.Author.Rules.{rules}
-use Rattle.lists.specs.Quotient.{rows-below}
-use Rattle.legal.specs.Loop.{loop_of, graph_of}
-use Rattle.operands.specs.Given.{form-tells, links-fit, links-begin, links-follow}
-use Rattle.operands.proofs.Laws.{place-small}
-use Rattle.plain.proofs.Laws.{left_at, next-less, Come, come-first, come-more, come-last}
+use Rattle.legal.specs.Loop.{loop_of}
+use Rattle.plain.proofs.Laws.{left_at, Come}
 use Rattle.plain.proofs.iterate_all.Given as goal
 
 abbrev pub invariant-loop-turn : goal.invariant-loop-turn

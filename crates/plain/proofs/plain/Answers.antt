@@ -2,8 +2,6 @@
 -- Assumes nothing.
 use mathlib.Core.Path.{refl, sym, ◌∙◌}
 use native.Mathlib.Omega.{arith}
-use borrow.Author.Rules.{rules}
-use borrow.Author.Tests.{not-true, not-false}
 use Rattle.record.specs.Read.{read-good}
 use Rattle.plain.proofs.Answers.{record-refused, record-looped}
 use Rattle.plain.proofs.plain.Goals as goal

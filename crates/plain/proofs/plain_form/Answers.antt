@@ -2,8 +2,6 @@
 -- Assumes nothing.
 use mathlib.Core.Path.{sym, ◌∙◌}
 use native.Mathlib.Omega.{arith}
-use borrow.Author.Rules.{rules}
-use borrow.Author.Tests.{not-true, not-false}
 use Rattle.legal.specs.Loop.{loop_of}
 use Rattle.sorted.specs.Ordered.{table_below}
 use Rattle.tables.specs.Edges.{ends-form, told-form}
