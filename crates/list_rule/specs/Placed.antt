@@ -78,7 +78,7 @@ module _ (g : Loop) (r : ℕ → ℕ) (sound : Sound g) where
       (λ w.
       ⊎_elim
       (λ k. inl (rw w.1 k))
-      (λ n. inr (λ i. elim i [ zero ↦ λ j. w.0 | suc i' ↦ λ j. n i' (le_of_suc-le-suc j) ]))
+      (λ n. inr (λ i. elim i as (λ k. k < length (v ∷ vs) → Goes g r s p s (get_or (v ∷ vs) k 0) → ⊥) [ zero ↦ λ j. w.0 | suc i' ↦ λ j. n i' (le_of_suc-le-suc j) ]))
       (step-next p one vs s m hs l st))
       (place_view g r s p s v)
 

@@ -15,10 +15,6 @@ use Rattle.list_rule.proofs.Laws.{adds_one, adds_none, count-more}
 use Rattle.list_rule.proofs.unplaced.Goals.{else-start-v-eq0, then-start-v-eq0}
 use Rattle.list_rule.proofs.unplaced.Goals as goal
 
--- how many of the first v nodes are not placed
-abbrev unplaced_of : List ℕ → ℕ → ℕ
-unplaced_of s v = count (λ u. eqb (start_number s u) 0) (span 0 v)
-
 pub loop-v-init : goal.loop-v-init
 unfolding count span
 loop-v-init c = (search rules, search rules, refl)

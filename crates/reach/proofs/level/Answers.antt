@@ -19,7 +19,7 @@ bounds-queue-i c =
 
 pub spread-end-requires : goal.spread-end-requires
 spread-end-requires c =
-    (c.requires.0, c.loop-i.invariant.1, c.loop-i.invariant.1.Node-in _ (omega arith))
+    (c.requires.0, c.loop-i.invariant.1, c.loop-i.invariant.1.node_in _ (omega arith))
 
 pub loop-i-preserved : goal.loop-i-preserved
 loop-i-preserved c =

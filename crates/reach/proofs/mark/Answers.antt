@@ -16,7 +16,8 @@ bounds-queue-end c =
     room c.args.marks.now c.args.queue.now c.args.end c.args.head c.args.tight c.requires.0 (omega arith) (λ h. omega arith)
 
 pub overflow_add-result : goal.overflow_add-result
-overflow_add-result c = omega (arith, element-write-queue c)
+overflow_add-result c =
+    omega (arith, room c.args.marks.now c.args.queue.now c.args.end c.args.head c.args.tight c.requires.0 (omega arith) (λ h. omega arith))
 
 pub returns : goal.returns
 returns c = met-new _ _ _ _ _ c.requires.0 (omega arith) (λ h. omega arith) (omega arith)
