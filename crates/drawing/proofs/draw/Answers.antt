@@ -14,10 +14,10 @@ returns-then-not-is_fine c =
     record { value = h.0; out_after = h.1 }
 
 pub times_of-times-requires : goal.times_of-times-requires
-times_of-times-requires c = (read-good c.args.«record».now _ c.read-read.ensures (λ i. omega (arith, c.shared_slice_known-1.given i)) (sym c.is_fine.ensures ∙ c.if-not-is_fine.false))
+times_of-times-requires c = (read-good c.args.«record».now _ c.read-read.ensures (λ i. omega (arith, c.type_inv.«record» i)) (sym c.is_fine.ensures ∙ c.if-not-is_fine.false))
 
 pub put_table-size-requires : goal.put_table-size-requires
-put_table-size-requires c = record { form = c.read-read.result.form; good = (read-good c.args.«record».now _ c.read-read.ensures (λ i. omega (arith, c.shared_slice_known-1.given i)) (sym c.is_fine.ensures ∙ c.if-not-is_fine.false)); is = c.times_of-times.ensures }
+put_table-size-requires c = record { form = c.read-read.result.form; good = (read-good c.args.«record».now _ c.read-read.ensures (λ i. omega (arith, c.type_inv.«record» i)) (sym c.is_fine.ensures ∙ c.if-not-is_fine.false)); is = c.times_of-times.ensures }
 
 pub returns-then-out-size : goal.returns-then-out-size
 returns-then-out-size c =
@@ -25,7 +25,7 @@ returns-then-out-size c =
     record { value = h.0; out_after = h.1 }
 
 pub put_table-requires : goal.put_table-requires
-put_table-requires c = record { form = c.read-read.result.form; good = (read-good c.args.«record».now _ c.read-read.ensures (λ i. omega (arith, c.shared_slice_known-1.given i)) (sym c.is_fine.ensures ∙ c.if-not-is_fine.false)); is = c.times_of-times.ensures }
+put_table-requires c = record { form = c.read-read.result.form; good = (read-good c.args.«record».now _ c.read-read.ensures (λ i. omega (arith, c.type_inv.«record» i)) (sym c.is_fine.ensures ∙ c.if-not-is_fine.false)); is = c.times_of-times.ensures }
 
 pub returns : goal.returns
 returns c =
