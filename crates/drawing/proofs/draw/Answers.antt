@@ -31,24 +31,3 @@ pub returns : goal.returns
 returns c =
     let h = fits _ _ c.read-read.ensures (sym c.is_fine.ensures ∙ c.if-not-is_fine.false) _ _ _ (c.put_table-size.ensures.1 _ c.times_of-times.ensures) _ _ (omega (arith, c.if-out-size.false)) (c.put_table.ensures.1 _ c.times_of-times.ensures) in
     record { value = h.0; out_after = h.1 }
-
-pub read-read-requires : goal.read-read-requires
-read-read-requires c = search tests
-
-pub is_fine-requires : goal.is_fine-requires
-is_fine-requires c = search tests
-
-pub slice_bounds-put_table-end : goal.slice_bounds-put_table-end
-slice_bounds-put_table-end c = search tests
-
-pub slice_bounds-put_table-end-2 : goal.slice_bounds-put_table-end-2
-slice_bounds-put_table-end-2 c = search tests
-
-pub shape_of-out-then-out-size : goal.shape_of-out-then-out-size
-shape_of-out-then-out-size c = search tests
-
-pub overflow_cast-result : goal.overflow_cast-result
-overflow_cast-result c = search tests
-
-pub shape_of-out : goal.shape_of-out
-shape_of-out c = search tests
