@@ -9,40 +9,25 @@ use Rattle.drawing.proofs.Whole.{refused-draw, cramped, fits}
 use Rattle.drawing.proofs.draw.Goals as goal
 
 pub returns-then-not-is_fine : goal.returns-then-not-is_fine
-returns-then-not-is_fine c = refused-draw _ _ c.read-read.ensures _ (sym c.is_fine.ensures ∙ c.if-not-is_fine.true)
+returns-then-not-is_fine c =
+    let h = refused-draw _ _ c.read-read.ensures _ (sym c.is_fine.ensures ∙ c.if-not-is_fine.true) in
+    record { value = h.0; out_after = h.1 }
 
 pub times_of-times-requires : goal.times_of-times-requires
-times_of-times-requires c = (read-good c.args.«record».now _ c.read-read.ensures (λ i. omega (arith, c.shared_slice_known-1.given i)) (sym c.is_fine.ensures ∙ c.if-not-is_fine.false))
+times_of-times-requires c = (read-good c.args.«record».now _ c.read-read.ensures (λ i. omega (arith, c.type_inv.«record» i)) (sym c.is_fine.ensures ∙ c.if-not-is_fine.false))
 
 pub put_table-size-requires : goal.put_table-size-requires
-put_table-size-requires c = record { form = c.read-read.result.form; good = (read-good c.args.«record».now _ c.read-read.ensures (λ i. omega (arith, c.shared_slice_known-1.given i)) (sym c.is_fine.ensures ∙ c.if-not-is_fine.false)); is = c.times_of-times.ensures }
+put_table-size-requires c = record { form = c.read-read.result.form; good = (read-good c.args.«record».now _ c.read-read.ensures (λ i. omega (arith, c.type_inv.«record» i)) (sym c.is_fine.ensures ∙ c.if-not-is_fine.false)); is = c.times_of-times.ensures }
 
 pub returns-then-out-size : goal.returns-then-out-size
-returns-then-out-size c = cramped _ _ c.read-read.ensures (sym c.is_fine.ensures ∙ c.if-not-is_fine.false) _ _ _ (c.put_table-size.ensures.1 _ c.times_of-times.ensures) (omega (arith, c.if-out-size.true))
+returns-then-out-size c =
+    let h = cramped _ _ c.read-read.ensures (sym c.is_fine.ensures ∙ c.if-not-is_fine.false) _ _ _ (c.put_table-size.ensures.1 _ c.times_of-times.ensures) (omega (arith, c.if-out-size.true)) in
+    record { value = h.0; out_after = h.1 }
 
 pub put_table-requires : goal.put_table-requires
-put_table-requires c = record { form = c.read-read.result.form; good = (read-good c.args.«record».now _ c.read-read.ensures (λ i. omega (arith, c.shared_slice_known-1.given i)) (sym c.is_fine.ensures ∙ c.if-not-is_fine.false)); is = c.times_of-times.ensures }
+put_table-requires c = record { form = c.read-read.result.form; good = (read-good c.args.«record».now _ c.read-read.ensures (λ i. omega (arith, c.type_inv.«record» i)) (sym c.is_fine.ensures ∙ c.if-not-is_fine.false)); is = c.times_of-times.ensures }
 
 pub returns : goal.returns
-returns c = fits _ _ c.read-read.ensures (sym c.is_fine.ensures ∙ c.if-not-is_fine.false) _ _ _ (c.put_table-size.ensures.1 _ c.times_of-times.ensures) _ _ (omega (arith, c.if-out-size.false)) (c.put_table.ensures.1 _ c.times_of-times.ensures)
-
-pub read-read-requires : goal.read-read-requires
-read-read-requires c = search tests
-
-pub is_fine-requires : goal.is_fine-requires
-is_fine-requires c = search tests
-
-pub slice_bounds-put_table-end : goal.slice_bounds-put_table-end
-slice_bounds-put_table-end c = search tests
-
-pub slice_bounds-put_table-end-2 : goal.slice_bounds-put_table-end-2
-slice_bounds-put_table-end-2 c = search tests
-
-pub shape_of-out-then-out-size : goal.shape_of-out-then-out-size
-shape_of-out-then-out-size c = search tests
-
-pub overflow_cast-result : goal.overflow_cast-result
-overflow_cast-result c = search tests
-
-pub shape_of-out : goal.shape_of-out
-shape_of-out c = search tests
+returns c =
+    let h = fits _ _ c.read-read.ensures (sym c.is_fine.ensures ∙ c.if-not-is_fine.false) _ _ _ (c.put_table-size.ensures.1 _ c.times_of-times.ensures) _ _ (omega (arith, c.if-out-size.false)) (c.put_table.ensures.1 _ c.times_of-times.ensures) in
+    record { value = h.0; out_after = h.1 }

@@ -20,12 +20,3 @@ shape_of-out c = same-long _ _ _ _ _ c.loop-i.invariant.2
 
 pub returns : goal.returns
 returns c = (search tests, blanks-whole _ _ _ _ _ _ (omega arith) c.loop-i.invariant.2)
-
-pub put_byte-next-requires : goal.put_byte-next-requires
-put_byte-next-requires c = search tests
-
-pub overflow_add-i : goal.overflow_add-i
-overflow_add-i c = search tests
-
-pub loop-i-smaller : goal.loop-i-smaller
-loop-i-smaller c = search tests

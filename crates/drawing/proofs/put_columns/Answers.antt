@@ -27,21 +27,3 @@ loop-c-preserved c = (search tests, search tests, search tests, λ f t k. row_mo
 
 pub returns : goal.returns
 returns c = (search tests, λ f t k. rows_whole _ _ _ _ _ _ _ (c.loop-c.invariant.3 f t k) (omega arith))
-
-pub overflow_cast-row : goal.overflow_cast-row
-overflow_cast-row c = search tests
-
-pub offset_bounds-class-c : goal.offset_bounds-class-c
-offset_bounds-class-c c = search tests
-
-pub bounds-class-c : goal.bounds-class-c
-bounds-class-c c = search tests
-
-pub overflow_add-c : goal.overflow_add-c
-overflow_add-c c = search tests
-
-pub loop-c-smaller : goal.loop-c-smaller
-loop-c-smaller c = search tests
-
-pub shape_of-out : goal.shape_of-out
-shape_of-out c = search tests

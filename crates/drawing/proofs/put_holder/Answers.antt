@@ -11,12 +11,3 @@ returns-then-holds_in c = (search tests, place_here _ _ _ _ _ c.holds_in.ensures
 pub returns : goal.returns
 unfolding held_place
 returns c = (search tests, place-elsewhere _ _ _ _ _ c.holds_in.ensures c.if-holds_in.false)
-
-pub holds_in-requires : goal.holds_in-requires
-holds_in-requires c = search tests
-
-pub put_held-requires : goal.put_held-requires
-put_held-requires c = search tests
-
-pub shape_of-out-then-holds_in : goal.shape_of-out-then-holds_in
-shape_of-out-then-holds_in c = search tests

@@ -22,24 +22,3 @@ shape_of-out c = same-long _ _ _ _ _ c.loop-i.invariant.2
 
 pub returns : goal.returns
 returns c = (search tests, rows_whole _ _ _ _ _ _ _ c.loop-i.invariant.2 (omega arith))
-
-pub overflow_cast-i : goal.overflow_cast-i
-overflow_cast-i c = search tests
-
-pub bounds-runs-i : goal.bounds-runs-i
-bounds-runs-i c = search tests
-
-pub offset_bounds-start-i : goal.offset_bounds-start-i
-offset_bounds-start-i c = search tests
-
-pub bounds-start-i : goal.bounds-start-i
-bounds-start-i c = search tests
-
-pub put_holder-next-requires : goal.put_holder-next-requires
-put_holder-next-requires c = search tests
-
-pub overflow_add-i : goal.overflow_add-i
-overflow_add-i c = search tests
-
-pub loop-i-smaller : goal.loop-i-smaller
-loop-i-smaller c = search tests

@@ -9,12 +9,3 @@ put_columns-end-requires c = (search tests, search tests, c.requires.3, c.requir
 
 pub returns : goal.returns
 returns c = (search tests, λ f t k e. row_put f _ _ e _ _ _ _ _ _ _ _ c.put_right-first.ensures.1 (c.put_columns-end.ensures.1 f t k) c.put_byte.ensures.1)
-
-pub put_right-first-requires : goal.put_right-first-requires
-put_right-first-requires c = search tests
-
-pub put_byte-requires : goal.put_byte-requires
-put_byte-requires c = search tests
-
-pub shape_of-out : goal.shape_of-out
-shape_of-out c = search tests

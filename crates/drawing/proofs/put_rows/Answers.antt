@@ -35,15 +35,3 @@ loop-i-preserved c = (search tests, search tests, search tests, λ f e. row_more
 
 pub returns : goal.returns
 returns c = (omega (arith, c.loop-i.invariant.1, tabled-length _ c.requires.1), λ f e. rows_whole _ _ _ _ _ _ _ (c.loop-i.invariant.3 f e) (omega (arith, times-length f _ e)))
-
-pub overflow_add-i : goal.overflow_add-i
-overflow_add-i c = search tests
-
-pub overflow_add-i-in-loop-i : goal.overflow_add-i-in-loop-i
-overflow_add-i-in-loop-i c = search tests
-
-pub loop-i-smaller : goal.loop-i-smaller
-loop-i-smaller c = search tests
-
-pub shape_of-out : goal.shape_of-out
-shape_of-out c = search tests

@@ -10,24 +10,3 @@ overflow_sub-size c = omega (arith, c.digits_of.ensures.2 c.requires.1, c.retimi
 
 pub returns : goal.returns
 returns c = (omega (arith, c.digits_of.ensures, c.digits_of.ensures.2 c.requires.1, c.retiming_size.ensures, c.put_blanks-first.ensures.0, c.put_number-past.ensures.1.ends, c.put_retiming.ensures.1.ends), right-put _ _ _ _ _ _ _ _ (start_left _ _ _ _ c.digits_of.ensures.0 c.retiming_size.ensures.0) c.put_blanks-first.ensures.1 (both _ _ _ _ _ _ _ _ c.put_number-past.ensures.1 c.put_retiming.ensures.1))
-
-pub digits_of-requires : goal.digits_of-requires
-digits_of-requires c = search tests
-
-pub retiming_size-requires : goal.retiming_size-requires
-retiming_size-requires c = search tests
-
-pub overflow_add-size : goal.overflow_add-size
-overflow_add-size c = search tests
-
-pub put_blanks-first-requires : goal.put_blanks-first-requires
-put_blanks-first-requires c = search tests
-
-pub put_number-past-requires : goal.put_number-past-requires
-put_number-past-requires c = search tests
-
-pub put_retiming-requires : goal.put_retiming-requires
-put_retiming-requires c = search tests
-
-pub shape_of-out : goal.shape_of-out
-shape_of-out c = search tests

@@ -11,12 +11,3 @@ returns-then-starts_in c = (search tests, place_here _ _ _ _ _ c.starts_in.ensur
 pub returns : goal.returns
 unfolding start_place
 returns c = (search tests, place-elsewhere _ _ _ _ _ c.starts_in.ensures c.if-starts_in.false)
-
-pub starts_in-requires : goal.starts_in-requires
-starts_in-requires c = search tests
-
-pub put_start-requires : goal.put_start-requires
-put_start-requires c = search tests
-
-pub shape_of-out-then-starts_in : goal.shape_of-out-then-starts_in
-shape_of-out-then-starts_in c = search tests

@@ -9,9 +9,3 @@ returns-then-retiming-eq0 c = (retiming-none _ (omega arith), omega arith)
 
 pub returns : goal.returns
 returns c = (retiming-some _ _ c.if-retiming-eq0.false c.digits_of.ensures.0, search tests)
-
-pub digits_of-requires : goal.digits_of-requires
-digits_of-requires c = search tests
-
-pub overflow_add-result : goal.overflow_add-result
-overflow_add-result c = search tests

@@ -7,8 +7,10 @@ use Rattle.listing.proofs.list.Goals as goal
 
 pub returns-then-out-size : goal.returns-then-out-size
 returns-then-out-size c =
-    cramped _ _ _ c.view_of-view.ensures _ _ c.put_view-size.ensures.1 (omega (arith, c.if-out-size.true))
+    let h = cramped _ _ _ c.view_of-view.ensures _ _ c.put_view-size.ensures.1 (omega (arith, c.if-out-size.true)) in
+    record { value = h.0; out_after = h.1 }
 
 pub returns : goal.returns
 returns c =
-    fits _ _ _ c.view_of-view.ensures _ _ c.put_view-size.ensures.1 _ _ (omega (arith, c.if-out-size.false)) c.put_view.ensures.1
+    let h = fits _ _ _ c.view_of-view.ensures _ _ c.put_view-size.ensures.1 _ _ (omega (arith, c.if-out-size.false)) c.put_view.ensures.1 in
+    record { value = h.0; out_after = h.1 }

@@ -22,15 +22,3 @@ shape_of-out c = same-long _ _ _ _ _ c.loop-i.invariant.2
 
 pub returns : goal.returns
 returns c = (search tests, rows_whole _ _ _ _ _ _ _ c.loop-i.invariant.2 (omega arith))
-
-pub overflow_add-i : goal.overflow_add-i
-overflow_add-i c = search tests
-
-pub put_line-next-requires : goal.put_line-next-requires
-put_line-next-requires c = search tests
-
-pub overflow_add-i-in-loop-i : goal.overflow_add-i-in-loop-i
-overflow_add-i-in-loop-i c = search tests
-
-pub loop-i-smaller : goal.loop-i-smaller
-loop-i-smaller c = search tests

@@ -16,32 +16,32 @@ returns-then-not-is_fine c =
 pub times_of-times-requires : goal.times_of-times-requires
 times_of-times-requires c =
     let fine = sym c.is_fine.ensures ∙ c.if-not-is_fine.false in
-    read-good c.args.«record».now _ c.read-read.ensures (λ i. omega (arith, c.shared_slice_known-1.given i)) fine
+    read-good c.args.«record».now _ c.read-read.ensures (λ i. omega (arith, c.type_inv.«record» i)) fine
 
 pub judge_tables-judged-requires : goal.judge_tables-judged-requires
 judge_tables-judged-requires c =
     let fine = sym c.is_fine.ensures ∙ c.if-not-is_fine.false in
-    let w = read-good c.args.«record».now _ c.read-read.ensures (λ i. omega (arith, c.shared_slice_known-1.given i)) fine in
+    let w = read-good c.args.«record».now _ c.read-read.ensures (λ i. omega (arith, c.type_inv.«record» i)) fine in
     let lent = lent-form _ _ w c.times_of-times.ensures in
     (c.read-read.result.form, lent)
 
 pub returns-then-not-is_fine-2 : goal.returns-then-not-is_fine-2
 returns-then-not-is_fine-2 c =
     let fine = sym c.is_fine.ensures ∙ c.if-not-is_fine.false in
-    let w = read-good c.args.«record».now _ c.read-read.ensures (λ i. omega (arith, c.shared_slice_known-1.given i)) fine in
+    let w = read-good c.args.«record».now _ c.read-read.ensures (λ i. omega (arith, c.type_inv.«record» i)) fine in
     let lent = lent-form _ _ w c.times_of-times.ensures in
     judged-viewed _ _ c.read-read.ensures fine _ (c.judge_tables-judged.ensures _ lent) (sym c.is_fine-2.ensures ∙ c.if-not-is_fine-2.true) _ c.refused-then-not-is_fine-2.ensures
 
 pub floor_tables-floored-requires : goal.floor_tables-floored-requires
 floor_tables-floored-requires c =
     let fine = sym c.is_fine.ensures ∙ c.if-not-is_fine.false in
-    let w = read-good c.args.«record».now _ c.read-read.ensures (λ i. omega (arith, c.shared_slice_known-1.given i)) fine in
+    let w = read-good c.args.«record».now _ c.read-read.ensures (λ i. omega (arith, c.type_inv.«record» i)) fine in
     let lent = lent-form _ _ w c.times_of-times.ensures in
     (c.read-read.result.form, lent)
 
 pub returns : goal.returns
 returns c =
     let fine = sym c.is_fine.ensures ∙ c.if-not-is_fine.false in
-    let w = read-good c.args.«record».now _ c.read-read.ensures (λ i. omega (arith, c.shared_slice_known-1.given i)) fine in
+    let w = read-good c.args.«record».now _ c.read-read.ensures (λ i. omega (arith, c.type_inv.«record» i)) fine in
     let lent = lent-form _ _ w c.times_of-times.ensures in
-    form-viewed c.args.«record».now _ c.read-read.ensures fine _ (c.judge_tables-judged.ensures _ lent) (λ i. omega (arith, c.shared_slice_known-1.given i)) (sym c.is_fine-2.ensures ∙ c.if-not-is_fine-2.false) _ (c.floor_tables-floored.ensures _ lent)
+    form-viewed c.args.«record».now _ c.read-read.ensures fine _ (c.judge_tables-judged.ensures _ lent) (λ i. omega (arith, c.type_inv.«record» i)) (sym c.is_fine-2.ensures ∙ c.if-not-is_fine-2.false) _ (c.floor_tables-floored.ensures _ lent)

@@ -1,11 +1,11 @@
 -- `words::put_limit` meets its contract: the text of each number from 16 on.
 -- Assumes nothing.
-use Prim.Native.Nat.{◌-◌, ◌≤◌}
+use Prim.Native.Nat.{◌-◌}
 use native.Mathlib.Omega.{arith}
 use borrow.Author.Rules.{rules}
 use Rattle.words.specs.Words.{size_word, steps_word, long_word, early_word, at_node_word, at_edge_word, busy_word, then_class_word}
 use Rattle.words.specs.Refusals.{rule_texts}
-use Rattle.words.proofs.Laws.{named_rule, unnamed, not-lowest}
+use Rattle.words.proofs.Laws.{named_rule, unnamed}
 use Rattle.words.proofs.put_limit.Goals as goal
 
 pub returns-in-16 : goal.returns-in-16
@@ -30,4 +30,4 @@ returns-in-20 c = (omega arith, named_rule _ _ (rule_texts c.args.answer.now c.a
 
 pub returns-in_default : goal.returns-in_default
 unfolding rule_texts
-returns-in_default c = (omega arith, unnamed _ _ (rule_texts c.args.answer.now c.args.from c.args.to) (c.args.number - 11) (let past : 21 ≤ c.args.number = (not-lowest c.args.number 20 (not-lowest c.args.number 19 (not-lowest c.args.number 18 (not-lowest c.args.number 17 (not-lowest c.args.number 16 c.requires.1 c.before.in_default.in_default-own.rest.0.0.0.0.1) c.before.in_default.in_default-own.rest.0.0.0.1) c.before.in_default.in_default-own.rest.0.0.1) c.before.in_default.in_default-own.rest.0.1) c.before.in_default.in_default-own.rest.1) in omega (arith, past)))
+returns-in_default c = (omega arith, unnamed _ _ (rule_texts c.args.answer.now c.args.from c.args.to) (c.args.number - 11) (omega arith))

@@ -1,11 +1,9 @@
 -- `words::put_shape` meets its contract: the text of each number.
 -- Assumes nothing.
-use Prim.Native.Nat.{◌≤◌}
 use native.Mathlib.Omega.{arith}
 use borrow.Author.Rules.{rules}
 use Rattle.words.specs.Words.{short_word, mark_word, version_word, count_word, machine_word, node_word, edge_word, start_word, retiming_word, tail_word}
 use Rattle.words.specs.Refusals.{shape_texts}
-use Rattle.words.proofs.Laws.{named, none_named, not-highest}
 use Rattle.words.proofs.Laws.{named, none_named}
 use Rattle.words.proofs.put_shape.Goals as goal
 
@@ -50,4 +48,4 @@ unfolding shape_texts tail_word
 returns-in-10 c = (omega arith, named _ _ (shape_texts c.args.offset) _ _ _ 10 c.in-10.is c.put_one.ensures.1)
 
 pub returns-in_default : goal.returns-in_default
-returns-in_default c = (omega arith, none_named _ _ _ _ (let zero : c.args.number ≤ 0 = (not-highest c.args.number 0 (not-highest c.args.number 1 (not-highest c.args.number 2 (not-highest c.args.number 3 (not-highest c.args.number 4 (not-highest c.args.number 5 (not-highest c.args.number 6 (not-highest c.args.number 7 (not-highest c.args.number 8 (not-highest c.args.number 9 (omega arith) c.before.in_default.in_default-own.rest.1) c.before.in_default.in_default-own.rest.0.1) c.before.in_default.in_default-own.rest.0.0.1) c.before.in_default.in_default-own.rest.0.0.0.1) c.before.in_default.in_default-own.rest.0.0.0.0.1) c.before.in_default.in_default-own.rest.0.0.0.0.0.1) c.before.in_default.in_default-own.rest.0.0.0.0.0.0.1) c.before.in_default.in_default-own.rest.0.0.0.0.0.0.0.1) c.before.in_default.in_default-own.rest.0.0.0.0.0.0.0.0.1) c.before.in_default.in_default-own.rest.0.0.0.0.0.0.0.0.0.1) in omega (arith, zero)))
+returns-in_default c = (omega arith, none_named _ _ _ _ (omega arith))
