@@ -3,7 +3,6 @@
 use mathlib.Core.Path.{◌≡◌}
 use mathlib.Core.List.{List, [], ◌∷◌}
 use Prim.Native.Nat.{ℕ, ◌+◌, ◌-◌, ◌/◌, ◌%◌, ◌≤◌, ◌<◌, min}
-use native.Mathlib.Omega.{arith}
 use lib.ListN.{length, get_or, get_or-eq_default}
 use borrow.Author.Rules.{rules}
 use borrow.Author.Tests.{le-ltb, lt-ltb, eq-eqb, ne_eqb}

@@ -2,9 +2,7 @@
 -- Assumes nothing.
 use mathlib.Core.Path.{sym, ◌∙◌}
 use native.Mathlib.Omega.{arith}
-use borrow.Author.Tests.{not-true, not-false}
 use Rattle.record.specs.Read.{read-good}
-use Rattle.drawing.proofs.Laws.{tests}
 use Rattle.drawing.proofs.Whole.{refused-draw, cramped, fits}
 use Rattle.drawing.proofs.draw.Goals as goal
 

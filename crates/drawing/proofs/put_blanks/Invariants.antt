@@ -2,11 +2,8 @@
 -- Assumes nothing.
 use mathlib.Core.Path.{◌≡◌}
 use Prim.Native.Nat.{◌≤◌, ◌+◌, ◌-◌}
-use native.Mathlib.Omega.{arith}
 use Rattle.laid.specs.Laid.{Laid}
-use Rattle.laid.specs.Laws.{same-long}
 use Rattle.drawing.specs.Table.{blanks}
-use Rattle.drawing.proofs.Laws.{tests, no-blank, blank-more, blanks-whole}
 use Rattle.drawing.proofs.put_blanks.Given as goal
 
 abbrev pub invariant-loop-i : goal.invariant-loop-i

@@ -1,14 +1,11 @@
 -- `drawing::put_classes` meets its contract: the loop's invariant is that the first lines are laid.
 -- Assumes nothing.
 use Prim.Native.Nat.{◌≤◌, ◌+◌, ◌-◌, ◌*◌}
-use native.Mathlib.Omega.{arith}
 use Rattle.laid.specs.Laid.{Laid}
 use Rattle.laid.specs.Rows.{rows}
-use Rattle.laid.specs.Laws.{nothing, row_more, rows_whole, same-long}
 use lib.ListN.{get_or}
 use Rattle.form.specs.Places.{no_class}
 use Rattle.drawing.specs.Table.{class_line}
-use Rattle.drawing.proofs.Laws.{tests}
 use Rattle.drawing.proofs.put_classes.Given as goal
 
 abbrev pub invariant-loop-c : goal.invariant-loop-c

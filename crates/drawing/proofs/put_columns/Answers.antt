@@ -1,17 +1,12 @@
 -- `drawing::put_columns` meets its contract: the loop's invariant is that the first columns are laid.
 -- Assumes nothing.
-use mathlib.Core.Path.{◌≡◌}
-use Prim.Native.Nat.{◌≤◌, ◌+◌, ◌-◌, ◌*◌}
+use Prim.Native.Nat.{◌-◌}
 use native.Mathlib.Omega.{arith}
-use Rattle.laid.specs.Laid.{Laid}
 use Rattle.laid.specs.Rows.{rows}
 use Rattle.laid.specs.Laws.{nothing, row_more, rows_whole}
-use lib.ListN.{length, get_or}
+use lib.ListN.{get_or}
 use mathlib.Core.Path.{ap}
-use Rattle.form.specs.declared.Form.{Form}
 use Rattle.form.specs.Places.{no_class}
-use Rattle.drawing.specs.Table.{places_text}
-use Rattle.drawing.specs.Noted.{Noted}
 use Rattle.drawing.proofs.Laws.{tests}
 use Rattle.drawing.proofs.put_columns.Goals as goal
 

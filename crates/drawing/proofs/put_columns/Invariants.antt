@@ -2,17 +2,12 @@
 -- Assumes nothing.
 use mathlib.Core.Path.{◌≡◌}
 use Prim.Native.Nat.{◌≤◌, ◌+◌, ◌-◌, ◌*◌}
-use native.Mathlib.Omega.{arith}
 use Rattle.laid.specs.Laid.{Laid}
 use Rattle.laid.specs.Rows.{rows}
-use Rattle.laid.specs.Laws.{nothing, row_more, rows_whole}
-use lib.ListN.{length, get_or}
-use mathlib.Core.Path.{ap}
+use lib.ListN.{length}
 use Rattle.form.specs.declared.Form.{Form}
-use Rattle.form.specs.Places.{no_class}
 use Rattle.drawing.specs.Table.{places_text}
 use Rattle.drawing.specs.Noted.{Noted}
-use Rattle.drawing.proofs.Laws.{tests}
 use Rattle.drawing.proofs.put_columns.Given as goal
 
 abbrev pub invariant-loop-c : goal.invariant-loop-c

@@ -1,12 +1,9 @@
 -- `drawing::put_free` meets its contract: the loop's invariant is that the first places are laid.
 -- Assumes nothing.
 use Prim.Native.Nat.{◌≤◌, ◌+◌, ◌-◌, ◌*◌}
-use native.Mathlib.Omega.{arith}
 use Rattle.laid.specs.Laid.{Laid}
 use Rattle.laid.specs.Rows.{rows}
-use Rattle.laid.specs.Laws.{nothing, row_more, rows_whole, same-long}
 use Rattle.drawing.specs.Words.{free_word}
-use Rattle.drawing.proofs.Laws.{tests}
 use Rattle.drawing.proofs.put_free.Given as goal
 
 abbrev pub invariant-loop-i : goal.invariant-loop-i

@@ -1,13 +1,9 @@
 -- `drawing::put_heads` meets its contract: the loop's invariant is that the first heads are laid.
 -- Assumes nothing.
-use Prim.Native.Nat.{◌≤◌, ◌+◌, ◌-◌, ◌*◌}
+use Prim.Native.Nat.{◌-◌}
 use native.Mathlib.Omega.{arith}
-use Rattle.laid.specs.Laid.{Laid}
 use Rattle.laid.specs.Rows.{rows}
 use Rattle.laid.specs.Laws.{nothing, row_more, rows_whole, same-long}
-use lib.ListN.{get_or}
-use Rattle.form.specs.Places.{no_class}
-use Rattle.drawing.specs.Table.{head_text}
 use Rattle.drawing.proofs.Laws.{tests}
 use Rattle.drawing.proofs.put_heads.Goals as goal
 

@@ -1,12 +1,9 @@
 -- `drawing::put_holding` meets its contract: the loop's invariant is that the first nodes are laid.
 -- Assumes nothing.
-use Prim.Native.Nat.{◌≤◌, ◌+◌, ◌-◌, ◌*◌}
+use Prim.Native.Nat.{◌-◌}
 use native.Mathlib.Omega.{arith}
-use Rattle.laid.specs.Laid.{Laid}
 use Rattle.laid.specs.Rows.{rows}
 use Rattle.laid.specs.Laws.{nothing, row_more, rows_whole, same-long}
-use lib.ListN.{get_or}
-use Rattle.drawing.specs.Table.{held_place}
 use Rattle.drawing.proofs.Laws.{tests}
 use Rattle.drawing.proofs.put_holding.Goals as goal
 

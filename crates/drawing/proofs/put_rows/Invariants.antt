@@ -2,16 +2,12 @@
 -- Assumes nothing.
 use mathlib.Core.Path.{◌≡◌}
 use Prim.Native.Nat.{◌≤◌, ◌+◌, ◌-◌, ◌*◌}
-use native.Mathlib.Omega.{arith}
 use Rattle.laid.specs.Laid.{Laid}
 use Rattle.laid.specs.Rows.{rows}
-use Rattle.laid.specs.Laws.{nothing, row_more, rows_whole}
 use lib.ListN.{length}
 use Rattle.form.specs.declared.Form.{Form}
 use Rattle.tables.specs.Times.{times_of}
 use Rattle.drawing.specs.Table.{row_text}
-use Rattle.drawing.proofs.Whole.{tabled-nodes, tabled-length, tabled-narrow, tabled-starts, times-noted, times-class, times-classes, times-length}
-use Rattle.drawing.proofs.Laws.{tests}
 use Rattle.drawing.proofs.put_rows.Given as goal
 
 abbrev pub invariant-loop-i : goal.invariant-loop-i

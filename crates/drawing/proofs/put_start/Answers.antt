@@ -2,7 +2,7 @@
 -- Assumes nothing.
 use native.Mathlib.Omega.{arith}
 use Rattle.laid.specs.Laws.{both}
-use Rattle.drawing.proofs.Laws.{tests, right-put, start_left}
+use Rattle.drawing.proofs.Laws.{right-put, start_left}
 use Rattle.drawing.proofs.put_start.Goals as goal
 
 pub overflow_sub-size : goal.overflow_sub-size

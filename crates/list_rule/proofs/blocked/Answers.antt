@@ -1,6 +1,5 @@
 -- `list_rule::blocked` meets its contract.
 -- Assumes nothing.
-use borrow.Author.Rules.{rules}
 use Rattle.lists.specs.Pick.{pick}
 use Rattle.list_rule.specs.Tables.{blocks_at}
 use Rattle.list_rule.proofs.Laws.{tests}

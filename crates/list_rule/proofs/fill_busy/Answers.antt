@@ -1,10 +1,10 @@
 -- `list_rule::fill_busy` meets its contract: the nodes passed are in use.
 -- Assumes nothing.
 use mathlib.Core.Path.{◌∙◌}
-use Prim.Native.Nat.{◌≤◌, ◌-◌}
+use Prim.Native.Nat.{◌-◌}
 use native.Mathlib.Omega.{arith}
 use borrow.Author.Rules.{rules}
-use Rattle.list_rule.specs.Tables.{OnBoard, Used}
+use Rattle.list_rule.specs.Tables.{OnBoard}
 use Rattle.list_rule.proofs.Units.{used-none, used-more, used_all, used-fits}
 use Rattle.list_rule.proofs.fill_busy.Goals.{In-loop-v}
 use Rattle.list_rule.proofs.fill_busy.Goals as goal

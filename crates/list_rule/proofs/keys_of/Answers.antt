@@ -1,10 +1,9 @@
 -- `list_rule::keys_of` meets its contract: the nodes passed have keys that make up 255 with their weights.
 -- Assumes nothing.
-use mathlib.Core.Path.{◌≡◌}
-use Prim.Native.Nat.{ℕ, ◌+◌, ◌-◌, ◌≤◌, ◌<◌}
+use Prim.Native.Nat.{◌-◌}
 use native.Mathlib.Omega.{arith}
 use native.Mathlib.Nat.{not-suc-le-zero}
-use lib.ListN.{length, get_or, length-set}
+use lib.ListN.{length-set}
 use borrow.Author.Rules.{rules}
 use Rattle.list_rule.proofs.Weighed.{keys-more}
 use Rattle.list_rule.proofs.keys_of.Goals as goal

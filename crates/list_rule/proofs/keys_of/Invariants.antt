@@ -2,11 +2,7 @@
 -- Assumes nothing.
 use mathlib.Core.Path.{◌≡◌}
 use Prim.Native.Nat.{ℕ, ◌+◌, ◌-◌, ◌≤◌, ◌<◌}
-use native.Mathlib.Omega.{arith}
-use native.Mathlib.Nat.{not-suc-le-zero}
-use lib.ListN.{length, get_or, length-set}
-use borrow.Author.Rules.{rules}
-use Rattle.list_rule.proofs.Weighed.{keys-more}
+use lib.ListN.{length, get_or}
 use Rattle.list_rule.proofs.keys_of.Given as goal
 
 abbrev pub invariant-loop-v : goal.invariant-loop-v

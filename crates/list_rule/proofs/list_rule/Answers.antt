@@ -1,16 +1,14 @@
 -- `list_rule::list_rule` meets its contract: in each of its three loops the rest of the rule equals the whole.
 -- Assumes nothing.
-use mathlib.Core.Path.{◌≡◌, refl, ◌∙◌}
-use mathlib.Core.Logic.{⊎_elim}
-use Prim.Native.Nat.{ℕ, ◌≤◌, ◌<◌, ◌-◌}
+use mathlib.Core.Path.{refl, ◌∙◌}
+use Prim.Native.Nat.{ℕ, ◌<◌, ◌-◌}
 use native.Mathlib.Omega.{arith}
 use lib.ListN.{get_or}
 use borrow.Author.Rules.{rules}
-use borrow.Author.Tests.{eqb-true, eqb-false, not-true, not-false}
 use Rattle.reach.specs.Tables.{ends-wide}
 use Rattle.list_rule.specs.Tables.{OnBoard}
 use Rattle.list_rule.proofs.Units.{on-board, used-fits}
-use Rattle.list_rule.proofs.Steps.{Ordered, ordered_of, Filling, filling-none, filling-end, filling-done, Trying, trying-none, trying-end, trying-placed, trying-waits, trying-full, trying-put, Searching, searching-none, searching-next, searching-full, searching-end}
+use Rattle.list_rule.proofs.Steps.{Ordered, ordered_of, filling-none, filling-end, filling-done, trying-none, trying-end, trying-placed, trying-waits, trying-full, trying-put, searching-none, searching-next, searching-full, searching-end}
 use Rattle.list_rule.proofs.list_rule.Goals.{After-fill_busy, then-start-v-ne0-via-then-start-v-ne0, then-start-v-ne0-via-else-start-v-ne0+then-waits-v-ne0}
 use Rattle.list_rule.proofs.list_rule.Goals as goal
 
@@ -88,8 +86,8 @@ nodes-preserved-then-start-v-ne0 c =
     let o = ordered (goal.at.nodes-preserved-then-start-v-ne0 c).After-fill_busy in (
       omega (arith, c.nodes-test.true),
       elim c.then-start-v-ne0.branch [
-        then-start-v-ne0-via-then-start-v-ne0 w ↦ trying-placed _ _ _ _ _ _ _ _ _ _ _ c.nodes.invariant.1 o c.requires.0 c.nodes-test.true w.if-start-v-ne0.true
-      | then-start-v-ne0-via-else-start-v-ne0+then-waits-v-ne0 w ↦ trying-waits _ _ _ _ _ _ _ _ _ _ _ c.nodes.invariant.1 o c.requires.0 c.nodes-test.true _ c.waiting-waits.ensures w.if-waits-v-ne0.true
+        | then-start-v-ne0-via-then-start-v-ne0 w ↦ trying-placed _ _ _ _ _ _ _ _ _ _ _ c.nodes.invariant.1 o c.requires.0 c.nodes-test.true w.if-start-v-ne0.true
+        | then-start-v-ne0-via-else-start-v-ne0+then-waits-v-ne0 w ↦ trying-waits _ _ _ _ _ _ _ _ _ _ _ c.nodes.invariant.1 o c.requires.0 c.nodes-test.true _ c.waiting-waits.ensures w.if-waits-v-ne0.true
       ],
     )
 
@@ -130,13 +128,12 @@ pub overflow_step-q : goal.overflow_step-q
 overflow_step-q c = omega (arith, c.loop-q-test.true, c.loop-q.invariant.2)
 
 pub loop-q-preserved : goal.loop-q-preserved
-loop-q-preserved c =
-    (
-      c.loop-q.invariant.0,
-      omega (arith, c.loop-q-test.true),
-      c.loop-q.invariant.2,
-      searching-next _ _ _ _ _ _ _ c.nodes.invariant.1.used (board (goal.at.loop-q-preserved c).After-fill_busy c.nodes.i c.nodes-test.true).class-in _ _ c.loop-q.invariant.3 c.loop-q-test.true (omega (arith, c.loop-q-test.true, c.loop-q.invariant.2)) _ c.spot.ensures.0 (omega (arith, c.if-class-busy.false)),
-    )
+loop-q-preserved c = (
+  c.loop-q.invariant.0,
+  omega (arith, c.loop-q-test.true),
+  c.loop-q.invariant.2,
+  searching-next _ _ _ _ _ _ _ c.nodes.invariant.1.used (board (goal.at.loop-q-preserved c).After-fill_busy c.nodes.i c.nodes-test.true).class-in _ _ c.loop-q.invariant.3 c.loop-q-test.true (omega (arith, c.loop-q-test.true, c.loop-q.invariant.2)) _ c.spot.ensures.0 (omega (arith, c.if-class-busy.false)),
+)
 
 -- ---- it is placed
 

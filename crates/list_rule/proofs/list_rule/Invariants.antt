@@ -1,16 +1,8 @@
 -- `list_rule::list_rule` meets its contract: in each of its three loops the rest of the rule equals the whole.
 -- Assumes nothing.
-use mathlib.Core.Path.{◌≡◌, refl, ◌∙◌}
-use mathlib.Core.Logic.{⊎_elim}
-use Prim.Native.Nat.{◌≤◌, ◌<◌, ◌-◌}
-use native.Mathlib.Omega.{arith}
-use lib.ListN.{get_or}
-use borrow.Author.Rules.{rules}
-use borrow.Author.Tests.{eqb-true, eqb-false, not-true, not-false}
-use Rattle.reach.specs.Tables.{ends-wide}
-use Rattle.list_rule.specs.Tables.{OnBoard}
-use Rattle.list_rule.proofs.Units.{on-board, used-fits}
-use Rattle.list_rule.proofs.Steps.{Ordered, ordered_of, Filling, filling-none, filling-end, filling-done, Trying, trying-none, trying-end, trying-placed, trying-waits, trying-full, trying-put, Searching, searching-none, searching-next, searching-full, searching-end}
+use mathlib.Core.Path.{◌≡◌}
+use Prim.Native.Nat.{◌≤◌, ◌-◌}
+use Rattle.list_rule.proofs.Steps.{Filling, Trying, Searching}
 use Rattle.list_rule.proofs.list_rule.Given as goal
 
 abbrev pub invariant-loop-q : goal.invariant-loop-q

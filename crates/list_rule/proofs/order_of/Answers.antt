@@ -1,7 +1,6 @@
 -- `list_rule::order_of` meets its contract: ascending keys are falling weights.
 -- Assumes nothing.
 use mathlib.Core.Path.{◌∙◌}
-use borrow.Author.Rules.{rules}
 use Rattle.list_rule.specs.Tables.{weight_of}
 use Rattle.list_rule.proofs.Weighed.{keys-weights}
 use Rattle.list_rule.proofs.order_of.Goals as goal

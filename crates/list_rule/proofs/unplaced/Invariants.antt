@@ -1,17 +1,12 @@
 -- `list_rule::unplaced` meets its contract: the nodes passed are counted.
 -- Assumes nothing.
-use mathlib.Core.Path.{◌≡◌, refl}
+use mathlib.Core.Path.{◌≡◌}
 use mathlib.Core.List.{List}
-use mathlib.Core.Logic.{⊎_elim}
 use Prim.Native.Nat.{ℕ, ◌≤◌, ◌-◌}
-use native.Mathlib.Omega.{arith}
 use lib.Dec.{eqb}
-use borrow.Author.Rules.{rules}
-use borrow.Author.Tests.{eq-eqb, ne_eqb}
 use Rattle.lists.specs.Span.{span}
 use Rattle.lists.specs.Fold.{count}
 use Rattle.list_rule.specs.Rule.{start_number}
-use Rattle.list_rule.proofs.Laws.{adds_one, adds_none, count-more}
 use Rattle.list_rule.proofs.unplaced.Given as goal
 
 -- how many of the first v nodes are not placed

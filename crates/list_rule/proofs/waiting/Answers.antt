@@ -1,10 +1,9 @@
 -- `list_rule::waiting` meets its contract: the edges passed are counted at their heads.
 -- Assumes nothing.
-use Prim.Native.Nat.{◌≤◌, ◌<◌, ◌-◌}
+use Prim.Native.Nat.{◌<◌, ◌-◌}
 use native.Mathlib.Omega.{arith}
 use lib.ListN.{get_or}
 use borrow.Author.Rules.{rules}
-use Rattle.list_rule.specs.Tables.{WaitsTabled}
 use Rattle.list_rule.proofs.Waits.{waits-none, waits-more, waits-all, waits-fits}
 use Rattle.list_rule.proofs.waiting.Goals.{In-loop-e}
 use Rattle.list_rule.proofs.waiting.Goals as goal

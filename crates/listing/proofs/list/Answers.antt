@@ -1,7 +1,6 @@
 -- `listing::list` meets its contract: measured in no room, where nothing is put, then put where it fits.
 -- Assumes nothing.
 use native.Mathlib.Omega.{arith}
-use borrow.Author.Rules.{rules}
 use Rattle.listing.proofs.Laws.{cramped, fits}
 use Rattle.listing.proofs.list.Goals as goal
 

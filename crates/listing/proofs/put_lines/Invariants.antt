@@ -1,12 +1,9 @@
 -- `listing::put_lines` meets its contract: the loop's invariant is that the first lines are laid.
 -- Assumes nothing.
 use Prim.Native.Nat.{◌≤◌, ◌+◌, ◌*◌, ◌-◌}
-use native.Mathlib.Omega.{arith}
 use Rattle.laid.specs.Laid.{Laid}
 use Rattle.laid.specs.Rows.{rows}
-use Rattle.laid.specs.Laws.{nothing, row_more, rows_whole, same-long}
 use Rattle.listing.specs.Lines.{cell, step_line}
-use Rattle.listing.proofs.Laws.{tests}
 use Rattle.listing.proofs.put_lines.Given as goal
 
 abbrev pub invariant-loop-i : goal.invariant-loop-i

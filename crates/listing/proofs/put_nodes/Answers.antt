@@ -1,11 +1,9 @@
 -- `listing::put_nodes` meets its contract: the loop's invariant is that the first nodes of the step are laid.
 -- Assumes nothing.
-use Prim.Native.Nat.{◌≤◌, ◌+◌, ◌*◌, ◌-◌}
+use Prim.Native.Nat.{◌-◌}
 use native.Mathlib.Omega.{arith}
-use Rattle.laid.specs.Laid.{Laid}
 use Rattle.laid.specs.Rows.{rows}
 use Rattle.laid.specs.Laws.{nothing, same-long}
-use Rattle.listing.specs.Lines.{cell, node_text}
 use Rattle.listing.proofs.Laws.{tests, node-more, nodes-whole}
 use Rattle.listing.proofs.put_nodes.Goals as goal
 

@@ -2,8 +2,6 @@
 -- Assumes nothing.
 use mathlib.Core.Path.{sym, ◌∙◌}
 use native.Mathlib.Omega.{arith}
-use borrow.Author.Tests.{not-true, not-false}
-use borrow.Author.Rules.{rules}
 use Rattle.record.specs.Read.{read-good}
 use Rattle.tables.specs.Lent.{lent-form}
 use Rattle.listing.proofs.Accepted.{read-viewed, judged-viewed, form-viewed}

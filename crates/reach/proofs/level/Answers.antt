@@ -1,12 +1,10 @@
 -- `reach::level` meets its contract: the nodes from place i on still wait.
 -- Assumes nothing.
 use mathlib.Core.Path.{◌≡◌, subst}
-use Prim.Native.Nat.{ℕ, ◌-◌, ◌≤◌}
+use Prim.Native.Nat.{ℕ, ◌-◌}
 use native.Mathlib.Omega.{arith}
 use borrow.Author.Rules.{rules}
-use Rattle.legal.specs.Loop.{Loop}
-use Rattle.reach.specs.Tables.{TellsTight}
-use Rattle.reach.specs.Marking.{Queued, Marking, None}
+use Rattle.reach.specs.Marking.{Marking, None}
 use Rattle.reach.proofs.Marks.{queued-few, leaves-queue}
 use Rattle.reach.proofs.level.Goals as goal
 
@@ -22,13 +20,12 @@ spread-end-requires c =
     (c.requires.0, c.loop-i.invariant.1, c.loop-i.invariant.1.node_in _ (omega arith))
 
 pub loop-i-preserved : goal.loop-i-preserved
-loop-i-preserved c =
-    (
-      search rules,
-      c.spread-end.ensures.queued,
-      omega (arith, c.spread-end.ensures.grows),
-      λ g r v t k. c.spread-end.ensures.spreads g r v _ t (c.loop-i.invariant.1.node_marked c.loop-i.i (omega arith)) (leaves-queue g r v _ _ c.loop-i.i _ (omega arith) (c.loop-i.invariant.3 g r v t k)),
-    )
+loop-i-preserved c = (
+  search rules,
+  c.spread-end.ensures.queued,
+  omega (arith, c.spread-end.ensures.grows),
+  λ g r v t k. c.spread-end.ensures.spreads g r v _ t (c.loop-i.invariant.1.node_marked c.loop-i.i (omega arith)) (leaves-queue g r v _ _ c.loop-i.i _ (omega arith) (c.loop-i.invariant.3 g r v t k)),
+)
 
 pub returns : goal.returns
 returns c =

@@ -1,13 +1,9 @@
 -- `reach::level` meets its contract: the nodes from place i on still wait.
 -- Assumes nothing.
-use mathlib.Core.Path.{◌≡◌, subst}
 use Prim.Native.Nat.{ℕ, ◌-◌, ◌≤◌}
-use native.Mathlib.Omega.{arith}
-use borrow.Author.Rules.{rules}
 use Rattle.legal.specs.Loop.{Loop}
 use Rattle.reach.specs.Tables.{TellsTight}
 use Rattle.reach.specs.Marking.{Queued, Marking, None}
-use Rattle.reach.proofs.Marks.{queued-few, leaves-queue}
 use Rattle.reach.proofs.level.Given as goal
 
 abbrev pub invariant-loop-i : goal.invariant-loop-i

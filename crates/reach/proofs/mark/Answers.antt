@@ -1,7 +1,6 @@
 -- `reach::mark` meets its contract: an edge changes nothing where it is slack or its head is marked; else its head is new.
 -- Assumes nothing.
 use native.Mathlib.Omega.{arith}
-use borrow.Author.Rules.{rules}
 use Rattle.reach.proofs.Marks.{met-still, room, met-new}
 use Rattle.reach.proofs.mark.Goals as goal
 

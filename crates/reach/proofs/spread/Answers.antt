@@ -1,13 +1,8 @@
 -- `reach::spread` meets its contract: the edges out of the node from edge e on are late.
 -- Assumes nothing.
-use Prim.Native.Nat.{ℕ, ◌-◌, ◌≤◌, ◌<◌}
+use Prim.Native.Nat.{◌-◌, ◌<◌}
 use native.Mathlib.Omega.{arith}
-use borrow.Author.Rules.{rules}
-use Rattle.legal.specs.Loop.{Loop}
-use Rattle.reach.specs.Reached.{Marked}
-use Rattle.reach.specs.Tables.{TellsTight}
-use Rattle.reach.specs.Marking.{Queued, Marking, OutFrom}
-use Rattle.reach.proofs.Marks.{Halfway, half-first, half-next, half-end}
+use Rattle.reach.proofs.Marks.{half-first, half-next, half-end}
 use Rattle.reach.proofs.spread.Goals as goal
 
 pub loop-e-init : goal.loop-e-init

@@ -1,6 +1,5 @@
 -- `reach::tight_mark` meets its contract.
 -- Assumes nothing.
-use borrow.Author.Rules.{rules}
 use Rattle.reach.proofs.Laws.{tight-one, tight-zero}
 use Rattle.reach.proofs.tight_mark.Goals as goal
 

@@ -1,12 +1,10 @@
 -- `reach::tights_of` meets its contract: the places passed are filled.
 -- Assumes nothing.
-use mathlib.Core.Path.{◌≡◌}
-use Prim.Native.Nat.{◌≤◌, ◌<◌, ◌-◌}
+use Prim.Native.Nat.{◌<◌, ◌-◌}
 use native.Mathlib.Nat.{not-suc-le-zero}
 use native.Mathlib.Omega.{arith}
-use lib.ListN.{length, get_or}
+use lib.ListN.{get_or}
 use borrow.Author.Rules.{rules}
-use Rattle.reach.specs.Tables.{TightsTabled}
 use Rattle.reach.proofs.Laws.{tights-more}
 use Rattle.reach.proofs.tights_of.Goals.{In-loop-e}
 use Rattle.reach.proofs.tights_of.Goals as goal

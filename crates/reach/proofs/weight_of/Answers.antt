@@ -2,7 +2,6 @@
 -- Assumes nothing.
 use Prim.Native.Nat.{◌<◌}
 use native.Mathlib.Omega.{arith}
-use borrow.Author.Rules.{rules}
 use Rattle.reach.proofs.Marks.{queued-start, marking-start, weight_is}
 use Rattle.reach.proofs.weight_of.Goals as goal
 

@@ -1,15 +1,10 @@
 -- `reach::weights` meets its contract: the places passed are filled.
 -- Assumes nothing.
-use mathlib.Core.Path.{◌≡◌}
-use Prim.Native.Nat.{ℕ, ◌≤◌, ◌-◌}
+use Prim.Native.Nat.{◌-◌}
 use native.Mathlib.Omega.{arith}
-use lib.ListN.{length}
 use borrow.Author.Rules.{rules}
-use Rattle.lists.specs.Filled.{filled, fill_none, fill_more}
-use Rattle.legal.specs.Loop.{Loop}
-use Rattle.tables.specs.Edges.{Told}
-use Rattle.reach.specs.Weight.{weight}
-use Rattle.reach.specs.Tables.{Retimed, ends-wide}
+use Rattle.lists.specs.Filled.{fill_none, fill_more}
+use Rattle.reach.specs.Tables.{ends-wide}
 use Rattle.reach.proofs.Laws.{heads-linked, tells-tight, weights-all}
 use Rattle.reach.proofs.weights.Goals as goal
 
@@ -29,14 +24,13 @@ weight_of-requires c =
     (search rules, c.requires.most, heads-linked _ _ _ _ c.requires _ _ c.links_of-out.ensures.chains)
 
 pub loop-v-preserved : goal.loop-v-preserved
-loop-v-preserved c =
-    (
-      omega (arith, c.loop-v-test.true),
-      search rules,
-      λ g r told retimed. fill_more _ _ c.loop-v.v _ _ (omega (arith, c.loop-v-test.true, c.requires.most))
-          (c.weight_of.ensures g r told.all-nodes (tells-tight _ _ _ _ c.requires _ _ c.links_of-out.ensures.chains g r _ c.args.retiming.now _ told retimed c.tights_of-tights.ensures))
-          (c.loop-v.invariant.2 g r told retimed),
-    )
+loop-v-preserved c = (
+  omega (arith, c.loop-v-test.true),
+  search rules,
+  λ g r told retimed. fill_more _ _ c.loop-v.v _ _ (omega (arith, c.loop-v-test.true, c.requires.most))
+      (c.weight_of.ensures g r told.all-nodes (tells-tight _ _ _ _ c.requires _ _ c.links_of-out.ensures.chains g r _ c.args.retiming.now _ told retimed c.tights_of-tights.ensures))
+      (c.loop-v.invariant.2 g r told retimed),
+)
 
 pub returns : goal.returns
 returns c g r told retimed = weights-all g r _ _ (omega (arith, told.all-nodes)) (c.loop-v.invariant.2 g r told retimed)

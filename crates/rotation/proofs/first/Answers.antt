@@ -2,8 +2,6 @@
 -- Assumes nothing.
 use mathlib.Core.Path.{sym, ◌∙◌}
 use native.Mathlib.Omega.{arith}
-use borrow.Author.Tests.{not-true, not-false}
-use borrow.Author.Rules.{rules}
 use Rattle.record.specs.Read.{read-good}
 use Rattle.record.specs.ReadFirst.{well-read}
 use Rattle.plans.specs.Tabled.{tabled-form}

@@ -3,7 +3,6 @@
 use mathlib.Core.Path.{sym, subst}
 use Prim.Native.Nat.{◌≤◌}
 use native.Mathlib.Omega.{arith}
-use borrow.Author.Rules.{rules}
 use Rattle.tables.specs.Lent.{lent-ends}
 use Rattle.plans.specs.Scheduling.{Planned, unturned}
 use Rattle.turning.specs.Rotation.{first_form}

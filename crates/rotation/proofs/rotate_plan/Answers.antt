@@ -2,8 +2,6 @@
 -- Assumes nothing.
 use mathlib.Core.Path.{refl, sym, subst, ◌∙◌}
 use native.Mathlib.Omega.{arith}
-use borrow.Author.Rules.{rules}
-use borrow.Author.Tests.{not-true, not-false}
 use Rattle.plans.specs.Scheduling.{Planned, unturned}
 use Rattle.rotation.specs.Rotating.{rotate_asked, rotated_by}
 use Rattle.rotation.proofs.Rotates.{turns-here, judge-accepted, accepted-alone, rotate-unjudged, rotate-turnable, rotate-size, rotate-too-long, rotate-planned}

@@ -2,7 +2,6 @@
 -- Assumes nothing.
 use mathlib.Core.Path.{◌∙◌}
 use Rattle.rsk_c.proofs.Filled.{filled}
-use borrow.Author.Rules.{rules}
 use Rattle.rsk_c.proofs.rsk_floor.Goals as goal
 
 pub returns : goal.returns

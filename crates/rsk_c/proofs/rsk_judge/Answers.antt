@@ -1,6 +1,5 @@
 -- `rsk_c::rsk_judge` meets its contract: the list is that of the judge's answer.
 -- Assumes nothing.
-use borrow.Author.Rules.{rules}
 use Rattle.rsk_c.proofs.Filled.{filled}
 use Rattle.rsk_c.proofs.rsk_judge.Goals as goal
 

@@ -1,6 +1,5 @@
 -- `rsk_c::rsk_list` meets its contract: the list is that of the listing's answer.
 -- Assumes nothing.
-use borrow.Author.Rules.{rules}
 use Rattle.rsk_c.proofs.ListLaws.{list-answered}
 use Rattle.rsk_c.proofs.rsk_list.Goals as goal
 

@@ -2,8 +2,6 @@
 -- Assumes nothing.
 use mathlib.Core.Path.{sym, ◌∙◌}
 use native.Mathlib.Omega.{arith}
-use borrow.Author.Rules.{rules}
-use borrow.Author.Tests.{not-true, not-false}
 use Rattle.rsk_c.proofs.Laws.{refused, passed, answered, taken}
 use Rattle.rsk_c.proofs.rsk_rewrite.Goals as goal
 

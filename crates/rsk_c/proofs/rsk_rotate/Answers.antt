@@ -1,7 +1,6 @@
 -- `rsk_c::rsk_rotate` meets its contract: the list is that of the rotation's answer.
 -- Assumes nothing.
 use Rattle.rsk_c.proofs.Filled.{filled}
-use borrow.Author.Rules.{rules}
 use Rattle.rsk_c.proofs.rsk_rotate.Goals as goal
 
 pub returns : goal.returns

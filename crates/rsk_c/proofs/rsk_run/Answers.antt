@@ -1,7 +1,6 @@
 -- `rsk_c::rsk_run` meets its contract: the list is that of the run's answer, without a cycle.
 -- Assumes nothing.
 use mathlib.Core.Path.{ap, ◌∙◌}
-use borrow.Author.Rules.{rules}
 use Rattle.answer.specs.Refused.{details}
 use Rattle.answer.specs.Outcome.{answer_list}
 use Rattle.answer.specs.declared.Cycle.{Cycle}

@@ -1,7 +1,6 @@
 -- `rsk_c::rsk_search` meets its contract: the list is that of the search's answer.
 -- Assumes nothing.
 use Rattle.rsk_c.proofs.Filled.{filled}
-use borrow.Author.Rules.{rules}
 use Rattle.rsk_c.proofs.rsk_search.Goals as goal
 
 pub returns : goal.returns

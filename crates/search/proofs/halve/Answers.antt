@@ -1,10 +1,8 @@
 -- `search::halve` meets its contract: what is left to halve ends where the whole does.
 -- Assumes nothing.
-use mathlib.Core.Path.{◌≡◌, refl, ◌∙◌}
-use Prim.Native.Nat.{◌<◌}
+use mathlib.Core.Path.{refl, ◌∙◌}
 use native.Mathlib.Omega.{arith}
 use borrow.Author.Rules.{rules}
-use Rattle.search.specs.Search.{halved}
 use Rattle.search.specs.Halved.{halved-turn, halved-stays}
 use Rattle.search.proofs.halve.Goals as goal
 

@@ -1,10 +1,9 @@
 -- `search::search_times` meets its contract: the rest of the search equals the whole.
 -- Assumes nothing.
-use Prim.Native.Nat.{◌+◌, ◌-◌}
+use Prim.Native.Nat.{◌-◌}
 use native.Mathlib.Omega.{arith}
 use borrow.Author.Rules.{rules}
-use Rattle.form.specs.declared.Form.{Form}
-use Rattle.search.proofs.Going.{Begun, begun_first, Going, going-none, going-some, going_end, going-zero, going-turnable, going-long, going-turn}
+use Rattle.search.proofs.Going.{begun_first, going-none, going-some, going_end, going-zero, going-turnable, going-long, going-turn}
 use Rattle.search.proofs.search_times.Goals as goal
 
 pub loop-rotations-init : goal.loop-rotations-init

@@ -1,10 +1,8 @@
 -- `search::search_times` meets its contract: the rest of the search equals the whole.
 -- Assumes nothing.
 use Prim.Native.Nat.{◌+◌, ◌-◌}
-use native.Mathlib.Omega.{arith}
-use borrow.Author.Rules.{rules}
 use Rattle.form.specs.declared.Form.{Form}
-use Rattle.search.proofs.Going.{Begun, begun_first, Going, going-none, going-some, going_end, going-zero, going-turnable, going-long, going-turn}
+use Rattle.search.proofs.Going.{Begun, Going}
 use Rattle.search.proofs.search_times.Given as goal
 
 abbrev pub invariant-loop-rotations : goal.invariant-loop-rotations

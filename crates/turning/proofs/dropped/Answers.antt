@@ -1,11 +1,9 @@
 -- `turning::dropped` meets its contract: the starts passed are lowered.
 -- Assumes nothing.
 use mathlib.Core.Path.{◌≡◌}
-use Prim.Native.Nat.{◌≤◌, ◌-◌}
+use Prim.Native.Nat.{◌-◌}
 use native.Mathlib.Omega.{arith}
-use borrow.Author.Rules.{rules}
-use Rattle.lists.specs.Filled.{filled, fill_none, fill_more}
-use Rattle.list_rule.specs.Rule.{start_number}
+use Rattle.lists.specs.Filled.{fill_none, fill_more}
 use Rattle.turning.proofs.dropped.Goals as goal
 
 pub loop-v-init : goal.loop-v-init

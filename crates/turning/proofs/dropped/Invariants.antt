@@ -2,9 +2,7 @@
 -- Assumes nothing.
 use mathlib.Core.Path.{◌≡◌}
 use Prim.Native.Nat.{◌≤◌, ◌-◌}
-use native.Mathlib.Omega.{arith}
-use borrow.Author.Rules.{rules}
-use Rattle.lists.specs.Filled.{filled, fill_none, fill_more}
+use Rattle.lists.specs.Filled.{filled}
 use Rattle.list_rule.specs.Rule.{start_number}
 use Rattle.turning.proofs.dropped.Given as goal
 

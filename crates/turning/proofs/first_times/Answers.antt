@@ -1,6 +1,5 @@
 -- `turning::first_times` meets its contract: the list rule from a timetable without a pair.
 -- Assumes nothing.
-use borrow.Author.Rules.{rules}
 use Rattle.legal.specs.Loop.{loop_of}
 use Rattle.turning.proofs.Bare.{table_pair, bare_ends, bare-sound, bare-in-body, bare-placeable, bare-placed}
 use Rattle.turning.proofs.Firsts.{first-early, first-rule, first-places-soon, first-is}

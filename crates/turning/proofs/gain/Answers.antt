@@ -1,7 +1,6 @@
 -- `turning::gain` meets its contract.
 -- Assumes nothing.
 use native.Mathlib.Omega.{arith}
-use borrow.Author.Rules.{rules}
 use borrow.Author.Tests.{le-leb, lt-leb}
 use Rattle.list_rule.proofs.Laws.{adds_one, adds_none}
 use Rattle.turning.proofs.gain.Goals as goal

@@ -1,13 +1,10 @@
 -- `turning::gained` meets its contract: the retimings passed are raised where they should be.
 -- Assumes nothing.
 use mathlib.Core.Path.{◌≡◌}
-use Prim.Native.Nat.{◌≤◌, ◌+◌, ◌-◌}
+use Prim.Native.Nat.{◌-◌}
 use native.Mathlib.Omega.{arith}
 use borrow.Author.Rules.{rules}
-use lib.Dec.{leb}
-use lib.ListN.{get_or}
-use Rattle.lists.specs.Pick.{pick}
-use Rattle.lists.specs.Filled.{filled, fill_none, fill_more}
+use Rattle.lists.specs.Filled.{fill_none, fill_more}
 use Rattle.turning.proofs.gained.Goals as goal
 
 pub loop-v-init : goal.loop-v-init

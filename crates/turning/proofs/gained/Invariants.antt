@@ -2,12 +2,10 @@
 -- Assumes nothing.
 use mathlib.Core.Path.{◌≡◌}
 use Prim.Native.Nat.{◌≤◌, ◌+◌, ◌-◌}
-use native.Mathlib.Omega.{arith}
-use borrow.Author.Rules.{rules}
 use lib.Dec.{leb}
 use lib.ListN.{get_or}
 use Rattle.lists.specs.Pick.{pick}
-use Rattle.lists.specs.Filled.{filled, fill_none, fill_more}
+use Rattle.lists.specs.Filled.{filled}
 use Rattle.turning.proofs.gained.Given as goal
 
 abbrev pub invariant-loop-v : goal.invariant-loop-v

@@ -1,13 +1,10 @@
 -- `turning::length_of` meets its contract: the last step of the nodes passed is kept.
 -- Assumes nothing.
-use mathlib.Core.Path.{◌≡◌, sym, ◌∙◌}
-use mathlib.Core.Logic.{⊎_elim}
-use Prim.Native.Nat.{ℕ, ◌≤◌, ◌<◌, ◌-◌}
+use mathlib.Core.Path.{sym, ◌∙◌}
+use Prim.Native.Nat.{◌-◌}
 use native.Mathlib.Omega.{arith}
 use borrow.Author.Rules.{rules}
-use lib.ListN.{get_or}
-use Rattle.legal.specs.Loop.{Loop, latency}
-use Rattle.turning.proofs.Laws.{last_of, last_none, last_more, last-all}
+use Rattle.turning.proofs.Laws.{last_none, last_more, last-all}
 use Rattle.turning.proofs.length_of.Goals.{else-last-end, then-last-end}
 use Rattle.turning.proofs.length_of.Goals as goal
 
@@ -27,12 +24,11 @@ overflow_sub-end c =
     omega (arith, c.requires.some c.loop-v.v (omega arith))
 
 pub loop-v-preserved : goal.loop-v-preserved
-loop-v-preserved c =
-    (
-      search rules,
-      λ g takes.
-          elim c.if-last-end.branch [ then-last-end w ↦ omega (arith, last_more g c.args.start.now c.loop-v.v, c.loop-v.invariant.1 g takes, takes c.loop-v.v (omega (arith, c.loop-v-test.true))) | else-last-end w ↦ omega (arith, last_more g c.args.start.now c.loop-v.v, c.loop-v.invariant.1 g takes, takes c.loop-v.v (omega (arith, c.loop-v-test.true))) ],
-    )
+loop-v-preserved c = (
+  search rules,
+  λ g takes.
+      elim c.if-last-end.branch [ then-last-end w ↦ omega (arith, last_more g c.args.start.now c.loop-v.v, c.loop-v.invariant.1 g takes, takes c.loop-v.v (omega (arith, c.loop-v-test.true))) | else-last-end w ↦ omega (arith, last_more g c.args.start.now c.loop-v.v, c.loop-v.invariant.1 g takes, takes c.loop-v.v (omega (arith, c.loop-v-test.true))) ],
+)
 
 pub returns : goal.returns
 returns c =

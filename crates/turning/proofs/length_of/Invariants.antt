@@ -1,13 +1,10 @@
 -- `turning::length_of` meets its contract: the last step of the nodes passed is kept.
 -- Assumes nothing.
-use mathlib.Core.Path.{◌≡◌, sym, ◌∙◌}
-use mathlib.Core.Logic.{⊎_elim}
+use mathlib.Core.Path.{◌≡◌}
 use Prim.Native.Nat.{ℕ, ◌≤◌, ◌<◌, ◌-◌}
-use native.Mathlib.Omega.{arith}
-use borrow.Author.Rules.{rules}
 use lib.ListN.{get_or}
 use Rattle.legal.specs.Loop.{Loop, latency}
-use Rattle.turning.proofs.Laws.{last_of, last_none, last_more, last-all}
+use Rattle.turning.proofs.Laws.{last_of}
 use Rattle.turning.proofs.length_of.Given as goal
 
 abbrev pub invariant-loop-v : goal.invariant-loop-v

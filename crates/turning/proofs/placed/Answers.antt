@@ -1,6 +1,5 @@
 -- `turning::placed` meets its contract: the list rule, and the length of what it places.
 -- Assumes nothing.
-use borrow.Author.Rules.{rules}
 use Rattle.turning.proofs.Bare.{place-soon, place_is}
 use Rattle.turning.proofs.placed.Goals as goal
 

@@ -2,7 +2,6 @@
 -- Assumes nothing.
 use Prim.Native.Nat.{◌≤◌}
 use native.Mathlib.Omega.{arith}
-use borrow.Author.Rules.{rules}
 use Rattle.plans.specs.Pairs.{times_with}
 use Rattle.turning.specs.Rotation.{turned_form}
 use Rattle.turning.proofs.Rotations.{rotate-long, rotate-lent, rotate-some, rotate-is}

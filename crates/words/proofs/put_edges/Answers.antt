@@ -1,9 +1,8 @@
 -- `words::put_edges` meets its contract: the rows of the edges before i are laid.
 -- Assumes nothing.
-use Prim.Native.Nat.{◌+◌, ◌*◌, ◌-◌, ◌≤◌}
+use Prim.Native.Nat.{◌-◌}
 use native.Mathlib.Omega.{arith}
 use borrow.Author.Rules.{rules}
-use Rattle.laid.specs.Laid.{Laid}
 use Rattle.laid.specs.Rows.{rows}
 use Rattle.laid.specs.Laws.{nothing, row_more, same-long}
 use Rattle.words.specs.Refusals.{edge_text}

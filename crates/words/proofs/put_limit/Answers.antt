@@ -2,7 +2,6 @@
 -- Assumes nothing.
 use Prim.Native.Nat.{◌-◌}
 use native.Mathlib.Omega.{arith}
-use borrow.Author.Rules.{rules}
 use Rattle.words.specs.Words.{size_word, steps_word, long_word, early_word, at_node_word, at_edge_word, busy_word, then_class_word}
 use Rattle.words.specs.Refusals.{rule_texts}
 use Rattle.words.proofs.Laws.{named_rule, unnamed}

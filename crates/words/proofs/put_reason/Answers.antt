@@ -1,7 +1,6 @@
 -- `words::put_reason` meets its contract: a field of the record, a rule of schedules, or a limit.
 -- Assumes nothing.
 use native.Mathlib.Omega.{arith}
-use borrow.Author.Rules.{rules}
 use Rattle.words.proofs.Laws.{shape-reason, rule-reason}
 use Rattle.words.proofs.put_reason.Goals as goal
 

@@ -1,7 +1,6 @@
 -- `words::put_refusal` meets its contract: the number, a space, the reason, the end of the line.
 -- Assumes nothing.
 use native.Mathlib.Omega.{arith}
-use borrow.Author.Rules.{rules}
 use Rattle.laid.specs.Laws.{both}
 use Rattle.text.specs.Words.{refused_word}
 use Rattle.words.specs.Refusals.{refusal_line, one_text}

@@ -1,7 +1,6 @@
 -- `words::put_room` meets its contract: a number between two words.
 -- Assumes nothing.
 use native.Mathlib.Omega.{arith}
-use borrow.Author.Rules.{rules}
 use Rattle.words.specs.Words.{room_word, room_end}
 use Rattle.words.proofs.put_room.Goals as goal
 

@@ -1,7 +1,6 @@
 -- `words::put_rule` meets its contract: the text of each number from 11 to 15.
 -- Assumes nothing.
 use native.Mathlib.Omega.{arith}
-use borrow.Author.Rules.{rules}
 use Rattle.words.specs.Words.{bare_word, knot_word, dependence_word, from_word, to_word, no_retiming_word, units_step_word, then_class_word}
 use Rattle.words.specs.Refusals.{rule_texts}
 use Rattle.words.proofs.Laws.{named_rule}

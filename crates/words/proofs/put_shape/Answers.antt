@@ -1,7 +1,6 @@
 -- `words::put_shape` meets its contract: the text of each number.
 -- Assumes nothing.
 use native.Mathlib.Omega.{arith}
-use borrow.Author.Rules.{rules}
 use Rattle.words.specs.Words.{short_word, mark_word, version_word, count_word, machine_word, node_word, edge_word, start_word, retiming_word, tail_word}
 use Rattle.words.specs.Refusals.{shape_texts}
 use Rattle.words.proofs.Laws.{named, none_named}
