@@ -9,41 +9,38 @@
 
 ghost use Rattle.std.specs.Prelude.{◌≡◌, length};
 
-use libc::STDOUT_FILENO;
+use std::io;
 
 fn two(low: u8, high: u8) -> u16 {
     low as u16 + 256 * high as u16
 }
 
-fn print_number(number: u32) {
-    io::print_decimal(STDOUT_FILENO, number as u64);
-    io::write_all(STDOUT_FILENO, b" ");
+fn print_number(rt: &impl Print, number: u32) -> io::Result<()> {
+    print!(rt; "{number} ")
 }
 
 // The number, the details, the count, and the cycle's edges.
-fn print_answer(answer: &[u32; 69]) {
+fn print_answer(rt: &impl Print, answer: &[u32; 69]) -> io::Result<()> {
     let count = answer[4];
-    let mut i: usize = 0;
-    while i < 69 {
+    for i in 0..69usize {
         if i < 5 {
-            print_number(answer[i]);
+            print_number(rt, answer[i])?;
         } else if i as u32 - 5 < count {
-            print_number(answer[i]);
+            print_number(rt, answer[i])?;
         }
-        i += 1;
     }
+    Ok(())
 }
 
-fn print_byte(byte: u8) {
-    io::print_hex(STDOUT_FILENO, byte as u64, 2);
+fn print_byte(rt: &impl Print, byte: u8) -> io::Result<()> {
+    print!(rt; "{byte:02x}")
 }
 
-fn print_bytes(bytes: &[u8]) {
-    let mut i: usize = 0;
-    while i < bytes.len() {
-        print_byte(bytes[i]);
-        i += 1;
+fn print_bytes(rt: &impl Print, bytes: &[u8]) -> io::Result<()> {
+    for byte in bytes {
+        print_byte(rt, *byte)?;
     }
+    Ok(())
 }
 
 // A rotation's size, or a search's count and size, are the first numbers.
@@ -78,12 +75,19 @@ fn ask(what: u8, first: u16, second: u16, record: &[u8], out: &mut [u8], answer:
 }
 
 // The answer and the buffer after it.
-fn tell(what: u8, first: u16, second: u16, record: &[u8], out: &mut [u8]) {
+fn tell(
+    rt: &impl Print,
+    what: u8,
+    first: u16,
+    second: u16,
+    record: &[u8],
+    out: &mut [u8],
+) -> io::Result<()> {
     let mut answer = [0u32; 69];
     ask(what, first, second, record, out, &mut answer);
-    print_answer(&answer);
-    print_bytes(out);
-    io::write_all(STDOUT_FILENO, b"\n");
+    print_answer(rt, &answer)?;
+    print_bytes(rt, out)?;
+    rt.write_all(b"\n")
 }
 
 fn empty() -> [u8; 2048]
@@ -99,41 +103,38 @@ fn marked() -> [u8; 8192]
 }
 
 // A request that lends bytes; whether there is that room.
-fn lend_bytes(head: &[u8; 14], record: &[u8]) -> bool {
+fn lend_bytes(rt: &impl Print, head: &[u8; 14], record: &[u8]) -> io::Result<bool> {
     let first = two(head[2], head[3]);
     let second = two(head[4], head[5]);
     let room = two(head[10], head[11]) as usize;
     if 8192 < room {
-        return false;
+        return Ok(false);
     }
     let mut out = marked();
-    tell(head[0], first, second, record, &mut out[..room]);
-    true
+    tell(rt, head[0], first, second, record, &mut out[..room])?;
+    Ok(true)
 }
 
 // Up to 64 words one by one, more as one number.
-fn print_words(words: &[u32]) {
+fn print_words(rt: &impl Print, words: &[u32]) -> io::Result<()> {
     if words.len() <= 64 {
-        print_each(words);
+        print_each(rt, words)
     } else {
-        print_number(checksum(words));
+        print_number(rt, checksum(words))
     }
 }
 
-fn print_each(words: &[u32]) {
-    let mut i: usize = 0;
-    while i < words.len() {
-        print_number(words[i]);
-        i += 1;
+fn print_each(rt: &impl Print, words: &[u32]) -> io::Result<()> {
+    for word in words {
+        print_number(rt, *word)?;
     }
+    Ok(())
 }
 
 fn checksum(words: &[u32]) -> u32 {
     let mut sum: u32 = 0;
-    let mut i: usize = 0;
-    while i < words.len() {
-        sum = mixed(sum, words[i]);
-        i += 1;
+    for word in words {
+        sum = mixed(sum, *word);
     }
     sum
 }
@@ -153,11 +154,9 @@ fn beginning(seed: u16) -> u32 {
 
 fn fill(seed: u16, starts: &mut [u32]) {
     let mut word = beginning(seed);
-    let mut i: usize = 0;
-    while i < starts.len() {
-        starts[i] = word;
+    for start in starts.iter_mut() {
+        *start = word;
         word = more(word, seed);
-        i += 1;
     }
 }
 
@@ -174,29 +173,41 @@ fn marked_words() -> [u32; 65536]
 }
 
 fn tell_run<'a>(
+    rt: &impl Print,
     k: u16,
     record: &'a [u8],
     starts: &'a [u32],
     values: &mut [u32],
     finish: &mut [u32],
-) {
+) -> io::Result<()> {
     let mut answer = [0u32; 69];
     rsk_c::rsk_run(record, k, starts, values, finish, &mut answer);
-    print_answer(&answer);
-    print_words(values);
-    print_words(finish);
-    io::write_all(STDOUT_FILENO, b"\n");
+    print_answer(rt, &answer)?;
+    print_words(rt, values)?;
+    print_words(rt, finish)?;
+    rt.write_all(b"\n")
 }
 
-fn tell_plain(k: u16, record: &[u8], starts: &[u32], values: &mut [u32]) {
+fn tell_plain(
+    rt: &impl Print,
+    k: u16,
+    record: &[u8],
+    starts: &[u32],
+    values: &mut [u32],
+) -> io::Result<()> {
     let mut answer = [0u32; 69];
     rsk_c::rsk_plain(record, k, starts, values, &mut answer);
-    print_answer(&answer);
-    print_words(values);
-    io::write_all(STDOUT_FILENO, b"\n");
+    print_answer(rt, &answer)?;
+    print_words(rt, values)?;
+    rt.write_all(b"\n")
 }
 
-fn lend_values<'a>(head: &[u8; 14], record: &'a [u8], starts: &'a [u32]) {
+fn lend_values<'a>(
+    rt: &impl Print,
+    head: &[u8; 14],
+    record: &'a [u8],
+    starts: &'a [u32],
+) -> io::Result<()> {
     let k = two(head[2], head[3]);
     let finishes = two(head[8], head[9]) as usize;
     let room = two(head[10], head[11]) as usize;
@@ -204,58 +215,62 @@ fn lend_values<'a>(head: &[u8; 14], record: &'a [u8], starts: &'a [u32]) {
     if head[0] == 8 {
         let mut finish = marked_words();
         tell_run(
+            rt,
             k,
             record,
             starts,
             &mut values[..room],
             &mut finish[..finishes],
-        );
+        )
     } else {
-        tell_plain(k, record, starts, &mut values[..room]);
+        tell_plain(rt, k, record, starts, &mut values[..room])
     }
 }
 
 // A request that lends words; whether there is that room.
-fn lend_words(head: &[u8; 14], record: &[u8]) -> bool {
+fn lend_words(rt: &impl Print, head: &[u8; 14], record: &[u8]) -> io::Result<bool> {
     let seed = two(head[4], head[5]);
     let places = two(head[6], head[7]) as usize;
     if 960 < places {
-        return false;
+        return Ok(false);
     }
     let mut starts = start_table();
     fill(seed, &mut starts[..places]);
-    lend_values(head, record, &starts[..places]);
-    true
+    lend_values(rt, head, record, &starts[..places])?;
+    Ok(true)
 }
 
-fn lend(head: &[u8; 14], record: &[u8]) -> bool {
+fn lend(rt: &impl Print, head: &[u8; 14], record: &[u8]) -> io::Result<bool> {
     if head[0] < 8 {
-        lend_bytes(head, record)
+        lend_bytes(rt, head, record)
     } else {
-        lend_words(head, record)
+        lend_words(rt, head, record)
     }
 }
 
 // One request; whether there was one.
-fn one() -> bool {
+fn one(rt: &HostRuntime) -> io::Result<bool> {
+    let mut input = rt.stdin();
     let mut head = [0u8; 14];
-    let got = io::read_full(0, &mut head);
+    let got = streams::read_full(&mut input, &mut head)?;
     let length = two(head[12], head[13]) as usize;
     if got < 14 {
-        return false;
+        return Ok(false);
     }
     if 2048 < length {
-        return false;
+        return Ok(false);
     }
     let mut bytes = empty();
-    io::read_full(0, &mut bytes[..length]);
-    lend(&head, &bytes[..length])
+    streams::read_full(&mut input, &mut bytes[..length])?;
+    lend(rt, &head, &bytes[..length])
 }
 
 // A proved loop has to end, and nothing says that the input does.
-fn main() {
-    let mut turns = u64::MAX;
-    while turns > 0 && one() {
-        turns -= 1;
+fn main(rt: HostRuntime) -> io::Result<()> {
+    for _ in 0..u64::MAX {
+        if !one(&rt)? {
+            break;
+        }
     }
+    Ok(())
 }
