@@ -1,53 +1,35 @@
 // What a person is told: usage, help, refusals and reasons.
-ghost use Rattle.io.specs.Counts.{IsPrefixLen};
+ghost use Rattle.std.specs.Prelude.{◌≤◌, length};
 
-use libc::{STDERR_FILENO, STDOUT_FILENO};
+use std::io;
 
-fn usage_to(fd: i32) {
-    io::write_all(fd, b"usage: rsk COMMAND, with a record at standard input\n");
-    io::write_all(fd, b"  judge | floor | list | table | help\n");
-    io::write_all(fd, b"  fit | first | rotate Z | search COUNT SIZE\n");
-    io::write_all(fd, b"  run K [FILE] | plain K [FILE]\n");
+fn usage_to(to: &impl Print) -> io::Result<()> {
+    to.write_all(b"usage: rsk COMMAND, with a record at standard input\n")?;
+    to.write_all(b"  judge | floor | list | table | help\n")?;
+    to.write_all(b"  fit | first | rotate Z | search COUNT SIZE\n")?;
+    to.write_all(b"  run K [FILE] | plain K [FILE]\n")
 }
 
-pub(crate) fn usage() {
-    usage_to(STDERR_FILENO);
+pub(crate) fn usage(rt: &HostRuntime) -> io::Result<()> {
+    usage_to(&rt.stderr())
 }
 
 // The usage, and what each command writes.
-pub(crate) fn help() {
-    usage_to(STDOUT_FILENO);
-    io::write_all(
-        STDOUT_FILENO,
-        b"\nfit, first, rotate and search write a record; the others write text.\n",
-    );
-    io::write_all(
-        STDOUT_FILENO,
-        b"Z, COUNT, SIZE and K are decimal numbers up to 65535.\n",
-    );
-    io::write_all(
-        STDOUT_FILENO,
-        b"run and plain take K iterations and print the values of the last one.\n",
-    );
-    io::write_all(
-        STDOUT_FILENO,
-        b"FILE has start values, 32 bits each, lowest byte first, 15 for each node;\n",
-    );
-    io::write_all(
-        STDOUT_FILENO,
-        b"without it they are 0. K times the number of nodes is at most 262144, else 18 Room.\n",
-    );
-    io::write_all(
-        STDOUT_FILENO,
-        b"What is refused is told on standard error: the number, the name, the details.\n",
-    );
+pub(crate) fn help(rt: &impl Print) -> io::Result<()> {
+    usage_to(rt)?;
+    rt.write_all(b"\nfit, first, rotate and search write a record; the others write text.\n")?;
+    rt.write_all(b"Z, COUNT, SIZE and K are decimal numbers up to 65535.\n")?;
+    rt.write_all(b"run and plain take K iterations and print the values of the last one.\n")?;
+    rt.write_all(b"FILE has start values, 32 bits each, lowest byte first, 15 for each node;\n")?;
+    rt.write_all(b"without it they are 0. K times the number of nodes is at most 262144, else 18 Room.\n")?;
+    rt.write_all(b"What is refused is told on standard error: the number, the name, the details.\n")
 }
 
 // How many bytes of a buffer a size names.
 pub(crate) fn size_in(size: u32, out: &[u8]) -> usize
-    ensures { IsPrefixLen result out.now }
+    ensures { result ≤ length out.now }
 {
-    io::count(size as isize, out)
+    (size as usize).min(out.len())
 }
 
 fn wide(x: u8) -> u32 {
@@ -63,65 +45,87 @@ pub(crate) fn end_of(ends: &[u8; 256], edge: u32) -> u32 {
 }
 
 // The line of a refusal.
-pub(crate) fn refusal(record: &[u8], answer: &[u32; 69]) {
+pub(crate) fn refusal(rt: &HostRuntime, record: &[u8], answer: &[u32; 69]) -> io::Result<()> {
     let read = reader::read(record);
     let form = read.form;
     let edge = answer[1];
     let from = end_of(&form.from, edge);
     let to = end_of(&form.to, edge);
-    let mut text = io::buffer();
+    let mut text = [0u8; 4096];
     let size = words::put_refusal(&mut text, answer, from, to);
     let length = size_in(size as u32, &text);
-    io::write_all(STDERR_FILENO, &text[..length]);
+    rt.stderr().write_all(&text[..length])
 }
 
-pub(crate) fn print_number(number: u32) {
-    io::print_decimal(STDOUT_FILENO, number as u64);
+// The system's words for an error, without its number.
+fn without_number(told: &str) -> &str {
+    match told.split_once(" (os error ") {
+        Some((words, _)) => words,
+        None => told,
+    }
+}
+
+// The line of a file that is not opened: its name, and why.
+pub(crate) fn failed(rt: &HostRuntime, name: &[u8], error: &io::Error) -> io::Result<()> {
+    let told = format!(in rt.alloc(); "{error}")?;
+    let to = rt.stderr();
+    to.write_all(name)?;
+    to.write_all(b": ")?;
+    to.write_all(without_number(told.as_str()).as_bytes())?;
+    to.write_all(b"\n")
+}
+
+pub(crate) fn print_number(rt: &impl Print, number: u32) -> io::Result<()> {
+    print!(rt; "{number}")
 }
 
 // A word and a number after it.
-pub(crate) fn print_field(word: &[u8], number: u32) {
-    io::write_all(STDOUT_FILENO, word);
-    print_number(number);
+pub(crate) fn print_field(rt: &impl Print, word: &[u8], number: u32) -> io::Result<()> {
+    rt.write_all(word)?;
+    print_number(rt, number)
 }
 
 // The node that an edge leaves, if the cycle goes on so far.
-fn print_member(ends: &[u8; 256], edge: u32, member: bool) {
+fn print_member(
+    rt: &impl Print,
+    ends: &[u8; 256],
+    edge: u32,
+    member: bool,
+) -> io::Result<()> {
     if member {
-        print_field(b" ", end_of(ends, edge));
+        print_field(rt, b" ", end_of(ends, edge))?;
     }
+    Ok(())
 }
 
 // The nodes of an answer's cycle, by the edges that leave them.
-fn print_cycle(ends: &[u8; 256], answer: &[u32; 69]) {
+fn print_cycle(rt: &impl Print, ends: &[u8; 256], answer: &[u32; 69]) -> io::Result<()> {
     let count = answer[4];
-    let mut i: usize = 0;
-    while i < 64 {
-        print_member(ends, answer[5 + i], (i as u32) < count);
-        i += 1;
+    for i in 0..64usize {
+        print_member(rt, ends, answer[5 + i], (i as u32) < count)?;
     }
+    Ok(())
 }
 
 // A floor and its reason.
-pub(crate) fn print_floor(record: &[u8], answer: &[u32; 69]) {
+pub(crate) fn print_floor(
+    rt: &impl Print,
+    record: &[u8],
+    answer: &[u32; 69],
+) -> io::Result<()> {
     let read = reader::read(record);
     let form = read.form;
-    print_field(b"floor ", answer[1]);
+    print_field(rt, b"floor ", answer[1])?;
     match answer[2] {
-        1 => {
-            io::write_all(
-                STDOUT_FILENO,
-                b", part a: the largest latency of a used class\n",
-            );
-        }
+        1 => rt.write_all(b", part a: the largest latency of a used class\n"),
         2 => {
-            print_field(b", part b: the units of class ", answer[3]);
-            io::write_all(STDOUT_FILENO, b"\n");
+            print_field(rt, b", part b: the units of class ", answer[3])?;
+            rt.write_all(b"\n")
         }
         _ => {
-            io::write_all(STDOUT_FILENO, b", part c: the cycle of nodes");
-            print_cycle(&form.from, answer);
-            io::write_all(STDOUT_FILENO, b"\n");
+            rt.write_all(b", part c: the cycle of nodes")?;
+            print_cycle(rt, &form.from, answer)?;
+            rt.write_all(b"\n")
         }
     }
 }

@@ -1,45 +1,43 @@
 // What each command does with the record at standard input.
 ghost use Rattle.std.specs.Prelude.{◌≡◌, ◌≤◌, length};
 
-use crate::tell;
+use crate::{tell, word_at};
 use commands::Command;
-use libc::STDOUT_FILENO;
+use std::fs::File;
+use std::io;
 
-pub(crate) fn judge() {
-    let mut bytes = io::buffer();
-    let length = io::read_full(0, &mut bytes);
+pub(crate) fn judge(rt: &HostRuntime) -> io::Result<()> {
+    let mut bytes = [0u8; 4096];
+    let length = streams::read_full(&mut rt.stdin(), &mut bytes)?;
     let mut answer = [0u32; 69];
     if rsk_c::rsk_judge(&bytes[..length], &mut answer) != 0 {
-        tell::refusal(&bytes[..length], &answer);
-        return;
+        return tell::refusal(rt, &bytes[..length], &answer);
     }
-    io::write_all(STDOUT_FILENO, b"legal\n");
+    rt.write_all(b"legal\n")
 }
 
-pub(crate) fn floor() {
-    let mut bytes = io::buffer();
-    let length = io::read_full(0, &mut bytes);
+pub(crate) fn floor(rt: &HostRuntime) -> io::Result<()> {
+    let mut bytes = [0u8; 4096];
+    let length = streams::read_full(&mut rt.stdin(), &mut bytes)?;
     let mut answer = [0u32; 69];
     if rsk_c::rsk_floor(&bytes[..length], &mut answer) != 0 {
-        tell::refusal(&bytes[..length], &answer);
-        return;
+        return tell::refusal(rt, &bytes[..length], &answer);
     }
-    tell::print_floor(&bytes[..length], &answer);
+    tell::print_floor(rt, &bytes[..length], &answer)
 }
 
 // What the judge refuses is no listing here.
-pub(crate) fn list() {
-    let mut bytes = io::buffer();
-    let length = io::read_full(0, &mut bytes);
+pub(crate) fn list(rt: &HostRuntime) -> io::Result<()> {
+    let mut bytes = [0u8; 4096];
+    let length = streams::read_full(&mut rt.stdin(), &mut bytes)?;
     let mut answer = [0u32; 69];
     if rsk_c::rsk_judge(&bytes[..length], &mut answer) != 0 {
-        tell::refusal(&bytes[..length], &answer);
-        return;
+        return tell::refusal(rt, &bytes[..length], &answer);
     }
-    let mut out = io::buffer();
+    let mut out = [0u8; 4096];
     rsk_c::rsk_list(&bytes[..length], &mut out, &mut answer);
     let size = tell::size_in(answer[1], &out);
-    io::write_all(STDOUT_FILENO, &out[..size]);
+    rt.write_all(&out[..size])
 }
 
 // Room for the table of what the judge accepts, at most 106,347 bytes (`table-size`, drawing/specs/Size): 512 rows
@@ -51,31 +49,29 @@ fn page() -> [u8; 131072]
     [0; 131072]
 }
 
-fn draw(record: &[u8]) {
+fn draw(rt: &impl Print, record: &[u8]) -> io::Result<()> {
     let mut out = page();
     let drawn = drawing::draw(record, &mut out);
     let size = tell::size_in(drawn, &out);
-    io::write_all(STDOUT_FILENO, &out[..size]);
+    rt.write_all(&out[..size])
 }
 
-pub(crate) fn table() {
-    let mut bytes = io::buffer();
-    let length = io::read_full(0, &mut bytes);
+pub(crate) fn table(rt: &HostRuntime) -> io::Result<()> {
+    let mut bytes = [0u8; 4096];
+    let length = streams::read_full(&mut rt.stdin(), &mut bytes)?;
     let mut answer = [0u32; 69];
     if rsk_c::rsk_judge(&bytes[..length], &mut answer) != 0 {
-        tell::refusal(&bytes[..length], &answer);
-        return;
+        return tell::refusal(rt, &bytes[..length], &answer);
     }
-    draw(&bytes[..length]);
+    draw(rt, &bytes[..length])?;
     let read = reader::read(&bytes[..length]);
     let form = read.form;
     rsk_c::rsk_floor(&bytes[..length], &mut answer);
-    tell::print_floor(&bytes[..length], &answer);
+    tell::print_floor(rt, &bytes[..length], &answer)?;
     if form.header.length as u32 == answer[1] {
-        io::write_all(STDOUT_FILENO, b"shortest\n");
-        return;
+        return rt.write_all(b"shortest\n");
     }
-    io::write_all(STDOUT_FILENO, b"open\n");
+    rt.write_all(b"open\n")
 }
 
 // A command that writes a record, with its numbers; what it refuses.
@@ -95,17 +91,16 @@ fn ask(
     }
 }
 
-pub(crate) fn rewrite(command: Command, a: u16, b: u16) {
-    let mut bytes = io::buffer();
-    let length = io::read_full(0, &mut bytes);
-    let mut out = io::buffer();
+pub(crate) fn rewrite(rt: &HostRuntime, command: Command, a: u16, b: u16) -> io::Result<()> {
+    let mut bytes = [0u8; 4096];
+    let length = streams::read_full(&mut rt.stdin(), &mut bytes)?;
+    let mut out = [0u8; 4096];
     let mut answer = [0u32; 69];
     if ask(command, &bytes[..length], a, b, &mut out, &mut answer) != 0 {
-        tell::refusal(&bytes[..length], &answer);
-        return;
+        return tell::refusal(rt, &bytes[..length], &answer);
     }
     let size = tell::size_in(answer[1], &out);
-    io::write_all(STDOUT_FILENO, &out[..size]);
+    rt.write_all(&out[..size])
 }
 
 // Room for 262,144 values.
@@ -143,10 +138,8 @@ fn starts_of(bytes: &[u8; 4096]) -> [u32; 960]
     ensures { length result ≡ 960 }
 {
     let mut starts = [0u32; 960];
-    let mut i: usize = 0;
-    while i < 960 {
+    for i in 0..960usize {
         starts[i] = number_at(bytes, 4 * i);
-        i += 1;
     }
     starts
 }
@@ -160,42 +153,46 @@ fn last_of(k: u16, nodes: u8) -> usize
 }
 
 // The value of a node.
-fn print_value(values: &[u32], place: usize, node: u32) {
+fn print_value(
+    rt: &impl Print,
+    values: &[u32],
+    place: usize,
+    node: u32,
+) -> io::Result<()> {
     if values.len() <= place {
-        return;
+        return Ok(());
     }
-    tell::print_field(b"node ", node);
-    tell::print_field(b": ", values[place]);
-    io::write_all(STDOUT_FILENO, b"\n");
+    tell::print_field(rt, b"node ", node)?;
+    tell::print_field(rt, b": ", values[place])?;
+    rt.write_all(b"\n")
 }
 
 // The values of an iteration, from a place on.
-fn print_values(values: &[u32], from: usize, nodes: usize)
+fn print_values(rt: &impl Print, values: &[u32], from: usize, nodes: usize) -> io::Result<()>
     requires { (from ≤ 16711425) × (nodes ≤ 255) }
 {
-    let mut v: usize = 0;
-    while v < nodes {
-        print_value(values, from + v, v as u32);
-        v += 1;
+    for v in 0..nodes {
+        print_value(rt, values, from + v, v as u32)?;
     }
+    Ok(())
 }
 
 // The values of the last iteration, if there is one.
-fn print_last(values: &[u32], k: u16, nodes: u8) {
+fn print_last(rt: &impl Print, values: &[u32], k: u16, nodes: u8) -> io::Result<()> {
     if k == 0 {
-        return;
+        return Ok(());
     }
-    print_values(values, last_of(k, nodes), nodes as usize);
+    print_values(rt, values, last_of(k, nodes), nodes as usize)
 }
 
 // The number of run steps, which the plain loop has not.
-fn print_steps(command: Command, steps: u32) {
+fn print_steps(rt: &impl Print, command: Command, steps: u32) -> io::Result<()> {
     match command {
         Command::Run => {
-            tell::print_field(b"run steps ", steps);
-            io::write_all(STDOUT_FILENO, b"\n");
+            tell::print_field(rt, b"run steps ", steps)?;
+            rt.write_all(b"\n")
         }
-        _ => {}
+        _ => Ok(()),
     }
 }
 
@@ -216,9 +213,14 @@ fn ask_repeat<'a>(
 }
 
 // The record run, or looped over plainly, from start values.
-fn repeat_from(command: Command, k: u16, starts: &[u32]) {
-    let mut bytes = io::buffer();
-    let length = io::read_full(0, &mut bytes);
+fn repeat_from(
+    rt: &HostRuntime,
+    command: Command,
+    k: u16,
+    starts: &[u32],
+) -> io::Result<()> {
+    let mut bytes = [0u8; 4096];
+    let length = streams::read_full(&mut rt.stdin(), &mut bytes)?;
     let mut values = room();
     let mut finish = room();
     let mut answer = [0u32; 69];
@@ -232,38 +234,44 @@ fn repeat_from(command: Command, k: u16, starts: &[u32]) {
         &mut answer,
     );
     if refused != 0 {
-        tell::refusal(&bytes[..length], &answer);
-        return;
+        return tell::refusal(rt, &bytes[..length], &answer);
     }
     let read = reader::read(&bytes[..length]);
     let form = read.form;
-    print_steps(command, answer[1]);
-    print_last(&values, k, form.header.nodes);
+    print_steps(rt, command, answer[1])?;
+    print_last(rt, &values, k, form.header.nodes)
 }
 
 // From the start values of the file that is named after K.
-fn repeat_named(command: Command, k: u16, fd: i32) {
-    let mut bytes = io::buffer();
-    let length = io::read_full(fd, &mut bytes);
+fn repeat_named(rt: &HostRuntime, command: Command, k: u16, file: &mut File) -> io::Result<()> {
+    let mut bytes = [0u8; 4096];
+    let length = streams::read_full(file, &mut bytes)?;
     let count = whole_numbers(length);
     let starts = starts_of(&bytes);
-    repeat_from(command, k, &starts[..count]);
+    repeat_from(rt, command, k, &starts[..count])
+}
+
+// The file of a name.
+fn open_read(rt: &HostRuntime, name: &[u8]) -> io::Result<File> {
+    match str::from_utf8(name) {
+        Ok(path) => File::open(rt, path),
+        Err(_) => Err(io::Error::new(
+            io::ErrorKind::InvalidInput,
+            "the name is not UTF-8",
+        )),
+    }
 }
 
 // The start values are all 0, or a file's.
-pub(crate) fn repeat(command: Command, k: u16, named: bool) {
-    let mut name = io::buffer();
-    let long = os::arg(3, &mut name);
+pub(crate) fn repeat(rt: &HostRuntime, command: Command, k: u16, named: bool) -> io::Result<()> {
+    let mut name = [0u8; 4096];
+    let long = word_at(rt, 3, &mut name);
     if !named {
         let starts = [0u32; 960];
-        repeat_from(command, k, &starts);
-        return;
+        return repeat_from(rt, command, k, &starts);
     }
-    let fd = os::open_read(&name[..long]);
-    if fd < 0 {
-        os::fail(&name[..long]);
-        return;
+    match open_read(rt, &name[..long]) {
+        Ok(mut file) => repeat_named(rt, command, k, &mut file),
+        Err(error) => tell::failed(rt, &name[..long], &error),
     }
-    repeat_named(command, k, fd);
-    libc::close(fd);
 }
