@@ -1,4 +1,4 @@
-/* Loop schedules: records read, judged, fitted, rotated, listed and run. Link librsk_c.a (rt staticlib rsk_c). */
+/* Loop schedules: records read, judged, fitted, rotated, listed and run. Link librsk_c.a (tools/archive.py). */
 #ifndef RSK_H
 #define RSK_H
 

@@ -1,8 +1,8 @@
 #!/usr/bin/env python3
 """run.py: the command-line program on small records, each command and each refusal.
 
-It runs target/bin/rsk and holds standard output and standard error to what stands here; some go through
-bin/rsk as well, for the exit status. Build first: rt check rsk.
+It runs crates/rsk/out/rsk and holds standard output and standard error to what stands here; some go through
+bin/rsk as well, for the exit status. Build first: bin/rsk help.
 """
 import os
 import struct
@@ -10,7 +10,7 @@ import subprocess
 import sys
 
 ROOT = os.path.dirname(os.path.dirname(os.path.dirname(os.path.abspath(__file__))))
-PROGRAM = os.path.join(ROOT, "target", "bin", "rsk")
+PROGRAM = os.path.join(ROOT, "crates", "rsk", "out", "rsk")
 SCRIPT = os.path.join(ROOT, "bin", "rsk")
 
 ADD, SUB, MUL = 0, 1, 2
