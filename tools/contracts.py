@@ -11,24 +11,34 @@ import sys
 
 HEAD = re.compile(r'^( *)pub (?:extern "C" )?fn (\w+)', re.M)
 IMPL = re.compile(r"^impl (\w+)", re.M)
+# what stands before a clause's brace; one of several clauses has a name
+CLAUSE = r"\b%s\*?(?: +\w+)?\s*"
+
+
+def closed(text, start):
+    """The place after the brace that closes the one at a place."""
+    depth = 0
+    for at in range(start, len(text)):
+        depth += (text[at] == "{") - (text[at] == "}")
+        if depth == 0:
+            return at + 1
+    raise ValueError("a brace that nothing closes")
 
 
 def signature(text, start):
     """From `pub fn` to the brace that opens its body."""
-    depth = 0
-    for at in range(start, len(text)):
-        if text[at] == "{":
-            line = text[text.rfind("\n", 0, at) + 1:at].strip()
-            if depth == 0 and not line.endswith(("requires", "ensures")):
-                return text[start:at]
-            depth += 1
-        elif text[at] == "}":
-            depth -= 1
-    raise ValueError("a function without a body")
+    at = text.index("{", start)
+    while re.search(CLAUSE % "(?:requires|ensures)" + "$", text[start:at]):
+        at = text.index("{", closed(text, at))
+    return text[start:at]
 
 
 def clauses(head, word):
-    return [" ".join(c.split()) for c in re.findall(word + r"\s*\{\s*(.*?)\s*\}\s*$", head, re.M | re.S)]
+    """What stands in the braces of each clause of that word."""
+    found = []
+    for match in re.finditer(CLAUSE % word + r"\{", head):
+        found.append(" ".join(head[match.end():closed(head, match.end() - 1) - 1].split()))
+    return found
 
 
 def functions():
@@ -45,12 +55,11 @@ def functions():
 
 
 def faults_of(name, head):
-    requires = re.findall(r"^\s*requires\b", head, re.M)
-    told = re.findall(r"ensures \{ λ (\S+)\.", head)
+    told = clauses(head, "ensures")
     returns = "->" in head.split("ensures")[0].split("requires")[0]
-    if not told or (returns and all(t == "_" for t in told)):
+    if not told or (returns and not any(re.search(r"\bresult\b", clause) for clause in told)):
         yield f"{name} ensures nothing of its result"
-    if requires and ('extern "C"' in head or "record: &[u8]" in head):
+    if clauses(head, "requires") and ('extern "C"' in head or "record: &[u8]" in head):
         yield f"{name} is an entry point, and requires something"
 
 

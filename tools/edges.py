@@ -1,7 +1,7 @@
 #!/usr/bin/env python3
 """Fails where crates.txt lists a crate that the other does not cite, or misses one that it cites.
 
-A crate cites another where it says `Rattle·NAME.` (specs, proofs, ghost uses) or `NAME::` (code); what that one
+A crate cites another where it says `Rattle.NAME.` (specs, proofs, ghost uses) or `NAME::` (code); what that one
 stands on in turn is not listed again, and a program links without it too. The kit's own libraries are not
 looked at. Run from the repository's root.
 """
@@ -20,7 +20,7 @@ def listed():
     for line in open("crates.txt"):
         name, colon, others = line.split("#")[0].partition(":")
         if colon:
-            crates[name.strip()] = others.split()
+            crates[name.split()[0]] = others.split()
     return crates
 
 
@@ -30,7 +30,7 @@ def cited(name):
     for part in ("src/*.rt", "specs/**/*.antt", "proofs/**/*.antt"):
         for path in glob.glob(f"crates/{name}/{part}", recursive=True):
             text = re.sub(r"(--|//).*", "", open(path).read())
-            found |= set(re.findall(r"Rattle·(\w+)\.", text))
+            found |= set(re.findall(r"\bRattle\.(\w+)\.", text))
             if path.endswith(".rt"):
                 found |= set(re.findall(r"\b(\w+)::", text))
     return found

@@ -21,7 +21,9 @@ pub(crate) fn help(rt: &impl Print) -> io::Result<()> {
     rt.write_all(b"Z, COUNT, SIZE and K are decimal numbers up to 65535.\n")?;
     rt.write_all(b"run and plain take K iterations and print the values of the last one.\n")?;
     rt.write_all(b"FILE has start values, 32 bits each, lowest byte first, 15 for each node;\n")?;
-    rt.write_all(b"without it they are 0. K times the number of nodes is at most 262144, else 18 Room.\n")?;
+    rt.write_all(
+        b"without it they are 0. K times the number of nodes is at most 262144, else 18 Room.\n",
+    )?;
     rt.write_all(b"What is refused is told on standard error: the number, the name, the details.\n")
 }
 
@@ -86,12 +88,7 @@ pub(crate) fn print_field(rt: &impl Print, word: &[u8], number: u32) -> io::Resu
 }
 
 // The node that an edge leaves, if the cycle goes on so far.
-fn print_member(
-    rt: &impl Print,
-    ends: &[u8; 256],
-    edge: u32,
-    member: bool,
-) -> io::Result<()> {
+fn print_member(rt: &impl Print, ends: &[u8; 256], edge: u32, member: bool) -> io::Result<()> {
     if member {
         print_field(rt, b" ", end_of(ends, edge))?;
     }
@@ -108,11 +105,7 @@ fn print_cycle(rt: &impl Print, ends: &[u8; 256], answer: &[u32; 69]) -> io::Res
 }
 
 // A floor and its reason.
-pub(crate) fn print_floor(
-    rt: &impl Print,
-    record: &[u8],
-    answer: &[u32; 69],
-) -> io::Result<()> {
+pub(crate) fn print_floor(rt: &impl Print, record: &[u8], answer: &[u32; 69]) -> io::Result<()> {
     let read = reader::read(record);
     let form = read.form;
     print_field(rt, b"floor ", answer[1])?;

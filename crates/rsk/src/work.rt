@@ -153,12 +153,7 @@ fn last_of(k: u16, nodes: u8) -> usize
 }
 
 // The value of a node.
-fn print_value(
-    rt: &impl Print,
-    values: &[u32],
-    place: usize,
-    node: u32,
-) -> io::Result<()> {
+fn print_value(rt: &impl Print, values: &[u32], place: usize, node: u32) -> io::Result<()> {
     if values.len() <= place {
         return Ok(());
     }
@@ -213,12 +208,7 @@ fn ask_repeat<'a>(
 }
 
 // The record run, or looped over plainly, from start values.
-fn repeat_from(
-    rt: &HostRuntime,
-    command: Command,
-    k: u16,
-    starts: &[u32],
-) -> io::Result<()> {
+fn repeat_from(rt: &HostRuntime, command: Command, k: u16, starts: &[u32]) -> io::Result<()> {
     let mut bytes = [0u8; 4096];
     let length = streams::read_full(&mut rt.stdin(), &mut bytes)?;
     let mut values = room();
@@ -255,10 +245,7 @@ fn repeat_named(rt: &HostRuntime, command: Command, k: u16, file: &mut File) -> 
 fn open_read(rt: &HostRuntime, name: &[u8]) -> io::Result<File> {
     match str::from_utf8(name) {
         Ok(path) => File::open(rt, path),
-        Err(_) => Err(io::Error::new(
-            io::ErrorKind::InvalidInput,
-            "the name is not UTF-8",
-        )),
+        Err(_) => Err(io::Error::new(io::ErrorKind::InvalidInput, "the name is not UTF-8")),
     }
 }
 

@@ -10,6 +10,6 @@ slice_bounds-text-end c = omega (arith, listed-within _ _ _ c.list-listed.ensure
 pub slice_bounds-write_all-end : goal.slice_bounds-write_all-end
 slice_bounds-write_all-end c =
     let within : c.list-listed.result.size ≤ length c.list-listed.new.out =
-            omega (arith, listed-within _ _ _ c.list-listed.ensures.value, c.list-listed.auto.out)
+    omega (arith, listed-within _ _ _ c.list-listed.ensures.value, c.list-listed.auto.out)
     in
     sym (length-take-le _ _ within)
