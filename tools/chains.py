@@ -1,5 +1,5 @@
 #!/usr/bin/env python3
-"""chains.py CRATE..: names the places of proofs that a chain of more than three `.before` leads back to.
+"""chains.py CRATE..: names the places of proofs by hand (Proof.antt) that a chain of more than three `.before` leads back to.
 
 In each fact of a proof file whose place `c` is gone back from by more than three steps, places on the way get a name by `let`, after
 what is known there: `at-read` is the place that has `.read`, `start` the one that has `.args`. Chains in a fact's type, and
@@ -8,18 +8,18 @@ below a `where`, stay as they are. The crates must be proved; check them again a
 import glob
 import os
 import re
-import subprocess
 import sys
 
-from places import records
+from places import generated, print_generated, records
 
-CHAIN = re.compile(r"(?<![\w\-′.])c((?: \.before)+)(?= \.|\)|,| in\b|$)", re.M)
+CHAIN = re.compile(r"(?<![\w\-'.])c((?:\.before)+)(?=\.|\)|,| |$)", re.M)
+STEP = ".before"
 
 
 def printed(crate, function):
     """The places of a function, and the place of each fact to prove."""
     places, needs = {}, {}
-    for path in glob.glob(f"target/gen-{crate}/Rattle·{crate}·proofs/proofs/{function}/Lts*.antt"):
+    for path in glob.glob(f"{generated(crate)}/Rattle-{crate}-proofs/{function}/Lts*.antt"):
         text = open(path).read()
         places.update(records(text))
         for match in re.finditer(r"^ *(?:abbrev )?pub Need-(\S+) : .*\n((?:.+\n)+)", text, re.M):
@@ -66,26 +66,26 @@ def renamed(fact, places, needs):
     body = "\n".join(([first.group(2)] if first.group(2) else []) + lines[at + 1 :])
     below = re.search(r"^\s+where\s*$", body, re.M)
     body, rest = (body[: below.start()], body[below.start() :]) if below else (body, "")
-    used = sorted(len(chain.group(1)) // 8 for chain in CHAIN.finditer(body))
+    used = sorted(len(chain.group(1)) // len(STEP) for chain in CHAIN.finditer(body))
     if not back or not used or max(used) < 4:
         return None
     named, names, seen = chosen(used), {0: "c"}, set()
     for depth in named[1:]:
         name = back[depth] if depth < len(back) else f"at-{depth}"
-        if name in seen or re.search(rf"(?<![\w\-′]){re.escape(name)}(?![\w\-′])", fact):
+        if name in seen or re.search(rf"(?<![\w\-']){re.escape(name)}(?![\w\-'])", fact):
             name += f"-{depth}"
         seen.add(name)
         names[depth] = name
 
     def shorter(chain):
-        depth = len(chain.group(1)) // 8
+        depth = len(chain.group(1)) // len(STEP)
         near = max(other for other in named if other <= depth)
-        return names[near] + " .before" * (depth - near)
+        return names[near] + STEP * (depth - near)
 
     new = CHAIN.sub(shorter, body).split("\n")
     indent = "    " if first.group(2) else re.match(r"\s*", new[0]).group(0)
     new[0] = indent + new[0].strip()
-    lets = [f"{indent}let {names[b]} = {names[a]}" + " .before" * (b - a) + " in" for a, b in zip(named, named[1:])]
+    lets = [f"{indent}let {names[b]} = {names[a]}" + STEP * (b - a) + " in" for a, b in zip(named, named[1:])]
     return "\n".join(lines[:at] + [first.group(1).rstrip()] + lets + new) + rest
 
 
@@ -94,11 +94,11 @@ def main():
         sys.exit(__doc__)
     if not os.environ.get("KEEP"):
         for crate in sys.argv[1:]:
-            subprocess.run(["rt", "dev", crate, "--generated", f"target/gen-{crate}"], stdout=subprocess.DEVNULL, stderr=subprocess.DEVNULL)
+            print_generated(crate)
     for crate in sys.argv[1:]:
         for path in glob.glob(f"crates/{crate}/proofs/**/Proof*.antt", recursive=True):
             text = open(path).read()
-            if re.search(r"(\.before ){4,}", text):
+            if re.search(r"(\.before){4,}", text):
                 places, needs = printed(crate, os.path.dirname(path)[len(f"crates/{crate}/proofs/") :])
                 facts = re.split(r"(?<=\n)\n", text)
                 open(path, "w").write("\n".join(renamed(fact, places, needs) or fact for fact in facts))

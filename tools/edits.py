@@ -1,46 +1,39 @@
 #!/usr/bin/env python3
-"""edits.py CRATE [EDIT..]: tries the must-fail edits of one crate, without those of what it stands on.
+"""edits.py CRATE [EDIT..]: tries the must-fail edits of one crate, and prints the first error of each.
 
-It works in a copy under target/edits, with what is proved already, and prints the first error of each edit:
-a fact that no longer holds, not a proof that does not fit.
+With names of edits it tries those alone, in a copy outside the repository, over what is proved already.
 """
 import glob
 import os
 import shutil
 import subprocess
 import sys
+import tempfile
 
 
-def first_error(text):
-    for line in text.split("\n"):
-        if ": error: " in line:
-            place, said = line.split(": error: ", 1)
-            return place.split("/proofs/")[-1].split("/specs/")[-1] + ": " + said[:300]
-    return "no error"
+def tried(folder, crate):
+    """Runs the crate's edits in a checkout, and prints what is said of each: a fact that no longer holds, not a proof that does not fit."""
+    ran = subprocess.run(["rt", "must-fail", crate], cwd=folder, stdout=subprocess.PIPE, stderr=subprocess.STDOUT, text=True)
+    said = [line[:600] for line in ran.stdout.split("\n") if "must-fail" in line or "EDIT" in line or line.startswith("error")]
+    print("\n".join(said))
+    return ran.returncode
 
 
 def main():
     if len(sys.argv) < 2:
         sys.exit(__doc__)
     crate, wanted = sys.argv[1], sys.argv[2:]
-    copy = f"target/edits/{crate}"
-    shutil.rmtree(copy, ignore_errors=True)
-    os.makedirs(f"{copy}/target")
-    shutil.copytree("crates", f"{copy}/crates", ignore=shutil.ignore_patterns("must-fail"))
-    shutil.copy("crates.txt", copy)
-    for part in ("rlib", "stamp"):
-        shutil.copytree(f"target/{part}", f"{copy}/target/{part}")
-    os.makedirs(f"{copy}/crates/{crate}/must-fail")
-    for path in glob.glob(f"crates/{crate}/must-fail/*.edit"):
-        name = os.path.basename(path)
-        if not wanted or name[:-5] in wanted:
-            shutil.copy(path, f"{copy}/crates/{crate}/must-fail/{name}")
-    ran = subprocess.run(["rt", "must-fail", crate], cwd=copy, stdout=subprocess.PIPE, stderr=subprocess.STDOUT, text=True)
-    print("\n".join(x[:300] for x in ran.stdout.split("\n") if "must-fail" in x or x.startswith(("error", "rt: ok"))))
-    for path in sorted(glob.glob(f"{copy}/target/must-fail/{crate}/*/.log")):
-        print(path.split("/")[-2] + ": " + first_error(open(path, errors="replace").read()))
-    shutil.rmtree(copy)
-    sys.exit(ran.returncode)
+    if not wanted:
+        sys.exit(tried(".", crate))
+    with tempfile.TemporaryDirectory(prefix=f"edits-{crate}-") as copy:
+        shutil.copytree("crates", f"{copy}/crates", ignore=shutil.ignore_patterns("must-fail"))
+        shutil.copy("crates.txt", copy)
+        subprocess.run(["git", "init", "-q", copy], check=True)
+        os.makedirs(f"{copy}/crates/{crate}/must-fail")
+        for path in glob.glob(f"crates/{crate}/must-fail/*.edit"):
+            if os.path.basename(path)[:-5] in wanted:
+                shutil.copy(path, f"{copy}/{path}")
+        sys.exit(tried(copy, crate))
 
 
 main()

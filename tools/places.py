@@ -1,14 +1,16 @@
 #!/usr/bin/env python3
-"""places.py CRATE FUNCTION [NEED..]: the places of a function's code, as the paths that its proof writes.
+"""places.py CRATE FUNCTION [NEED..]: the places of a function's code, as the paths that a proof by hand (Proof.antt) writes.
 
 For each fact to prove it prints what stands on the way back to the beginning: `3 knot-of` is
-`c .before .before .before .knot-of`. A recursive function is named with `+`, as its proof's folder is.
-KEEP=1 uses the print of the last call.
+`c.before.before.before.knot-of`. A recursive function is named with `+`, as its proof's folder is.
+KEEP=1 uses the print of the last call. For an answer (Answers.antt) the check itself prints the names that it can use.
 """
 import os
 import re
+import shutil
 import subprocess
 import sys
+import tempfile
 
 
 def records(text):
@@ -20,15 +22,24 @@ def records(text):
     return found
 
 
+def generated(crate):
+    """Where what rattle makes of a crate is printed: outside the repository, since rt reads every proof file below its top."""
+    return os.path.join(tempfile.gettempdir(), f"gen-{crate}")
+
+
+def print_generated(crate):
+    shutil.rmtree(generated(crate), ignore_errors=True)
+    subprocess.run(["rt", "check", "--generated", generated(crate)], cwd=f"crates/{crate}", stdout=subprocess.DEVNULL, stderr=subprocess.DEVNULL)
+
+
 def main():
     if len(sys.argv) < 3:
         sys.exit(__doc__)
     crate, function, wanted = sys.argv[1], sys.argv[2], sys.argv[3:]
-    folder = f"target/gen-{crate}"
     if not os.environ.get("KEEP"):
-        subprocess.run(["rt", "dev", crate, "--generated", folder], stdout=subprocess.DEVNULL, stderr=subprocess.DEVNULL)
+        print_generated(crate)
     part = f"Lts-{function[1:]}" if function.startswith("+") else "Lts"
-    path = f"{folder}/Rattle·{crate}·proofs/proofs/{function}/{part}.antt"
+    path = f"{generated(crate)}/Rattle-{crate}-proofs/{function}/{part}.antt"
     text = open(path).read()
     places = records(text)
     for match in re.finditer(r"^ *(?:abbrev )?pub Need-(\S+) : .*\n((?:.+\n)+)", text, re.M):
