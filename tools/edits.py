@@ -26,7 +26,7 @@ def main():
     if not wanted:
         sys.exit(tried(".", crate))
     with tempfile.TemporaryDirectory(prefix=f"edits-{crate}-") as copy:
-        shutil.copytree("crates", f"{copy}/crates", ignore=shutil.ignore_patterns("must-fail"))
+        shutil.copytree("crates", f"{copy}/crates", ignore=shutil.ignore_patterns("must-fail", "out"))
         shutil.copy("crates.txt", copy)
         subprocess.run(["git", "init", "-q", copy], check=True)
         os.makedirs(f"{copy}/crates/{crate}/must-fail")
