@@ -1,5 +1,5 @@
 // What a person is told: usage, help, refusals and reasons.
-ghost use Rattle.std.specs.Prelude.{◌≤◌, length};
+ghost use Rattle.std.specs.Prelude.{◌≤◌, length, take, ◌≡◌};
 
 use std::io;
 
@@ -29,7 +29,7 @@ pub(crate) fn help(rt: &impl Print) -> io::Result<()> {
 
 // How many bytes of a buffer a size names.
 pub(crate) fn size_in(size: u32, out: &[u8]) -> usize
-    ensures { result ≤ length out.now }
+    ensures { (result ≤ length out.now) × (result ≡ length (take result out.now)) }
 {
     (size as usize).min(out.len())
 }
