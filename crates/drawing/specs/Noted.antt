@@ -21,7 +21,7 @@ pub record Narrow (classes : ℕ) (class : List Class) : Type 0 where
   pub few : classes ≤ 4
   pub units : (c : ℕ) → c < classes → (get_or class c no_class).units ≤ 8
 
--- the timetable of a well_formed form
+-- the timetable of a well-formed form
 pub record TimesTabled (t : Timetable) : Type 0 where
   pub form : Form
   pub good : WellFormed form

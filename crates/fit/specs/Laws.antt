@@ -1,4 +1,4 @@
--- The form with the retiming found, and what a fit answers of a well_formed form: each refusal both ways.
+-- The form with the retiming found, and what a fit answers of a well-formed form: each refusal both ways.
 -- Assumes nothing.
 use Rattle.std.specs.Prelude.{◌≡◌, Bool, ◌≢◌, ◌⊎◌, List, ℕ, ◌≤◌, ◌<◌, eqb, leb, ltb, get_or}
 use Rattle.std.proofs.Math.Path.{refl, ap, subst}
@@ -38,7 +38,7 @@ use Rattle.fit.specs.Retimings.{retimings-length, retimings-small, retimings-zer
 -- ---- the form with the retiming found
 
 module _ (f : Form) (w : WellFormed f) (n : f.header.length ≢ 0) (q : Settles (loop_of f) (pair_of f)) where
-  -- it is well_formed
+  -- it is well-formed
   pub fitted-well-formed : WellFormed (fitted_form f)
   unfolding fitted_form with_retiming loop_of graph_of
   fitted-well-formed = record {

@@ -1,4 +1,4 @@
--- What the judge answers of a well_formed form: Bare, Knot, Dependence with the lowest edge, Units with the lowest step and then class, or that the pair is legal.
+-- What the judge answers of a well-formed form: Bare, Knot, Dependence with the lowest edge, Units with the lowest step and then class, or that the pair is legal.
 -- Assumes nothing.
 use Rattle.std.specs.Prelude.{◌≡◌, refl, true, ◌≢◌, List, ℕ, eqb}
 use Rattle.std.proofs.Common.{◌∙◌, subst, eqb-true, eq-eqb, ne_eqb}

@@ -1,4 +1,4 @@
--- What a well_formed form says of its loop and its pair.
+-- What a well-formed form says of its loop and its pair.
 -- Assumes nothing.
 use Rattle.std.specs.Prelude.{◌≡◌, refl, ◌≢◌, ℕ, ◌+◌, ◌*◌, ◌≤◌, ◌<◌}
 use Rattle.std.proofs.Common.{subst, arith, pos_of_ne-zero}
@@ -54,12 +54,12 @@ pub plain-ends : (g : Loop) (p : Pair) → p.kind ≡ plain → (v : ℕ) → In
 unfolding within
 plain-ends g p k v b = subst (λ (x : Kind). p.start v + within x (latency g v) ≤ p.length + 1) k b.ends
 
--- every edge of a well_formed form goes from a node of it to a node of it
+-- every edge of a well-formed form goes from a node of it to a node of it
 pub joined-form : (f : Form) → WellFormed f → Joined (graph_of f)
 unfolding graph_of
 joined-form f w = record { tails = λ e l. (w.edge e l).from; heads = λ e l. (w.edge e l).to }
 
--- a well_formed form has a loop of 1 to 64 nodes and up to 256 edges, with latencies 1 to 8
+-- a well-formed form has a loop of 1 to 64 nodes and up to 256 edges, with latencies 1 to 8
 pub sound-form : (f : Form) → WellFormed f → Sound (loop_of f)
 unfolding loop_of graph_of
 sound-form f w = record {

@@ -21,7 +21,7 @@ use Rattle.list_rule.specs.Ends.{EndsBy, length-ends, length-least}
 abbrev pub Staffed : Loop → Type 0
 Staffed g = (v : ℕ) → v < g.graph.nodes → 1 ≤ (g.class (ran_on g v)).units
 
--- as in a well_formed form
+-- as in a well-formed form
 pub staffed-form : (f : Form) → WellFormed f → Staffed (loop_of f)
 unfolding loop_of graph_of
 staffed-form f w v l = (w.class _ (w.node v l)).units.0

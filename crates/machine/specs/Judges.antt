@@ -1,4 +1,4 @@
--- The judge and the machine on a well_formed form: what the judge accepts runs to its end, as the plain loop does; what it refuses is stuck, given iterations enough.
+-- The judge and the machine on a well-formed form: what the judge accepts runs to its end, as the plain loop does; what it refuses is stuck, given iterations enough.
 -- Assumes nothing.
 use Rattle.std.specs.Prelude.{◌≡◌, ◌≢◌, List, ℕ, ◌+◌, ◌*◌, ◌≤◌, length}
 use Rattle.std.proofs.Common.{arith}
@@ -14,7 +14,7 @@ use Rattle.machine.specs.Run.{depth, run_of}
 use Rattle.machine.specs.Accepted.{Classed, accepted, accepted-plain}
 use Rattle.machine.specs.Refused.{unrefused-legal}
 
--- every node of a well_formed form runs on a class of it
+-- every node of a well-formed form runs on a class of it
 pub classed-form : (f : Form) → WellFormed f → Classed (loop_of f)
 unfolding loop_of graph_of
 classed-form f w v l = w.node v l

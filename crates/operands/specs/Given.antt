@@ -1,4 +1,4 @@
--- What a well_formed form gives: tables that tell its loop, and, with its edges linked, all that a node's value needs.
+-- What a well-formed form gives: tables that tell its loop, and, with its edges linked, all that a node's value needs.
 -- Assumes nothing.
 use Rattle.std.specs.Prelude.{refl, List, ℕ, ◌≤◌, ◌<◌, get_or}
 use Rattle.links.specs.Chains.{Chains, leads-on, leads-in, begins-in}

@@ -7,7 +7,7 @@ use Rattle.tables.specs.declared.Timetable.{Timetable}
 use Rattle.tables.specs.Times.{times_of}
 use Rattle.tables.specs.Lent.{Lent, lent-form}
 
--- the tables are those of a well_formed form, place by place
+-- the tables are those of a well-formed form, place by place
 pub record Tabled (f : Form) (edges : ℕ) (from to delays : List ℕ) (t : Timetable) : Type 0 where
   pub lent : Lent f edges from to delays t
   pub is : t ≡ times_of f

@@ -76,14 +76,14 @@ pub read-then-written : (s out : List ℕ) → Bytes s → fine (read_form s).re
     → (refusal_of (read_form s).form (length out) ≡ None) × (take (length s) (buffer_after (read_form s).form out) ≡ s)
 read-then-written s out b e l = let t = trip.writing-read s out b e l in (t.refusal, t.bytes)
 
--- a record that is read holds a well_formed form with its unused places 0
+-- a record that is read holds a well-formed form with its unused places 0
 pub read-well-formed : (s : List ℕ) → Bytes s → fine (read_form s).refusal ≡ true → WellFormed (read_form s).form
 read-well-formed = reading.read-well-formed
 
 pub read-used : (s : List ℕ) → Bytes s → fine (read_form s).refusal ≡ true → used (read_form s).form ≡ (read_form s).form
 read-used = reading.read-used
 
--- the writer takes exactly the well_formed forms: what it refuses else is numbered 4 to 9, before Room
+-- the writer takes exactly the well-formed forms: what it refuses else is numbered 4 to 9, before Room
 pub well-formed-taken : (f : Form) → Held f → WellFormed f → fine (read_form (layout f)).refusal ≡ true
 unfolding fine
 well-formed-taken f h w = ap (λ (r : Rattle.reader.specs.declared.Record.Record). fine r.refusal) (writing.well-formed-written f h w)
@@ -94,7 +94,7 @@ taken-well-formed = writing.written-well-formed
 pub refused-by-field : (f : Form) → Held f → (number_of (read_form (layout f)).refusal ≡ 0) ⊎ Within 4 9 (number_of (read_form (layout f)).refusal)
 refused-by-field = writing.written-refusals
 
--- ---- the judge, of a well_formed form
+-- ---- the judge, of a well-formed form
 
 module _ (f : Form) (w : WellFormed f) where
   -- it accepts exactly the legal pairs
@@ -134,7 +134,7 @@ module _ (f : Form) (w : WellFormed f) where
       → judge_of f ≡ refusal.Units q c
   units-refused = judging.units-judge f w
 
-  -- ---- the fit, of a well_formed form
+  -- ---- the fit, of a well-formed form
 
   -- NoRetiming exactly where there is a schedule, no knot, and no retiming fits the starts
   pub unfit-impossible : fit_of f ≡ refusal.NoRetiming → (f.header.length ≢ 0) × Free (loop_of f) × ((r : ℕ → ℕ) → Fits (loop_of f) (pair_of f) r → ⊥)
@@ -218,7 +218,7 @@ floor-below = floor-bound
 pub floor-named : (g : Loop) → Attains g (part_of g)
 floor-named = named
 
--- ---- first schedules, of a well_formed form without a knot
+-- ---- first schedules, of a well-formed form without a knot
 
 module _ (f : Form) (w : WellFormed f) (free : knotted (loop_of f) ≡ false) where
   -- legal with all retimings 0, and 1 to 512 steps long
@@ -251,7 +251,7 @@ pub list-rule-places : (g : Loop) (r : ℕ → ℕ) → Sound g → filling.Staf
     → (v : ℕ) → v < g.graph.nodes → 1 ≤ start_number (list_rule_of g r s) v
 list-rule-places g r sound staffed ranked s m within l v h = (rule-places g r sound staffed ranked s m within l).placed v h
 
--- ---- rotations, of a well_formed form with a legal pair
+-- ---- rotations, of a well-formed form with a legal pair
 
 module _ (f : Form) (w : WellFormed f) (legal : Legal (loop_of f) (pair_of f)) (z : ℕ) (one : 1 ≤ z) (below : z < f.header.length) where
   -- a legal pair again, or more than 512 steps
@@ -268,7 +268,7 @@ module _ (f : Form) (w : WellFormed f) (legal : Legal (loop_of f) (pair_of f)) (
   pub rotation-short : too_long f z ≡ false → rotated_length f z ≤ 512
   rotation-short = rotations.rotated-form-short f w legal z one below
 
--- ---- searches, of a well_formed form without a knot, by up to c rotations of size z
+-- ---- searches, of a well-formed form without a knot, by up to c rotations of size z
 
 -- where a search ends: at the first pair at which it stops, else after c rotations
 pub search-ends : (f : Form) (c z : ℕ) → SearchEnds f z c (searched f c z).rotations

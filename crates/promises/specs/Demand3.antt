@@ -32,7 +32,7 @@ use Rattle.plain.specs.Answer.{RecordLooped}
 use Rattle.run.specs.declared.Ran.{Ran}
 use Rattle.run.specs.Running.{room_asked, run_asked, asked, ran_of, RecordRun}
 
--- a well_formed form, any start values, any number of iterations, any buffers with room for them
+-- a well-formed form, any start values, any number of iterations, any buffers with room for them
 module _ (f : Form) (w : WellFormed f) (starts : List ℕ) (k : ℕ) (values finish : List ℕ)
     (room : k * (loop_of f).graph.nodes ≤ length values) (room' : k * (loop_of f).graph.nodes ≤ length finish) where
   -- accepted: no operation ever begins before its operands are finished or without a free unit

@@ -23,7 +23,7 @@ use Rattle.record.specs.ReadHeader.{Head}
 use Rattle.record.specs.Sofar.{head_classes, head_nodes, head_edges, head_length}
 use Rattle.record.specs.Walks.{Walks, slice-number, field-walks}
 
--- a refusal of a field of the form, which is then not well_formed
+-- a refusal of a field of the form, which is then not well-formed
 pub record Faulty (f : Form) (r : Refusal) : Type 0 where
   pub low : 4 ≤ number_of r
   pub high : number_of r ≤ 9

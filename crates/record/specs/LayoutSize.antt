@@ -87,7 +87,7 @@ module _ (f : Form) where
   pub fits-length : CountsFit f → length (layout f) ≡ size_of f.header
   fits-length w = omega (arith, layout-width, scheduled-le f.header.length f.header.nodes)
 
-  -- and so does a well_formed one
+  -- and so does a well-formed one
   pub layout-length : WellFormed f → length (layout f) ≡ size_of f.header
   layout-length w = fits-length (record { classes = w.classes.1; nodes = w.nodes.1; edges = w.edges })
 

@@ -1,4 +1,4 @@
--- The record at the front of any bytes: it is well_formed, its unused places are 0, and it is laid out as the bytes it was read from.
+-- The record at the front of any bytes: it is well-formed, its unused places are 0, and it is laid out as the bytes it was read from.
 -- Assumes nothing.
 use Rattle.std.specs.Prelude.{◌≡◌, true, List, ◌++◌, length, drop}
 use Rattle.std.proofs.Common.{sym, ap₂, subst, ◌∙◌, length-take, take-add, drop-drop}
@@ -41,7 +41,7 @@ module _ (s : List ℕ) (x : Reading) (p : StartsSofar s (head_starts s) x) wher
   starts_is : scheduled_of x.form.header.length x.form.header.nodes ≡ head_starts s
   starts_is = ap₂ scheduled_of p.counts.last p.counts.nodes
 
-  -- it is well_formed
+  -- it is well-formed
   pub whole-well-formed : normalized x.form.header.length x.form.header.nodes x.form.retiming ≡ true → WellFormed x.form
   whole-well-formed normal =
       record {
@@ -151,7 +151,7 @@ module _ (s : List ℕ) (b : Bytes s) (f : fine (prefix_of s).refusal ≡ true) 
   pub prefix-whole : StartsSofar s (head_starts s) (starts_read s)
   prefix-whole = (starts-run s b (λ r. Unit {0}) (λ e. tt) (λ i x l p e. tt) (λ i x l p e. tt) (λ i x l p e. tt) (λ i x l p e. tt)).on end.begun
 
-  -- it is well_formed
+  -- it is well-formed
   pub prefix-well-formed : WellFormed (prefix_of s).form
   prefix-well-formed = rw prefix-read (whole-well-formed s (starts_read s) prefix-whole end.normal)
 

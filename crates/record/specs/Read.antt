@@ -1,4 +1,4 @@
--- Reading a record that stands alone: what is read is well_formed, its unused places are 0, and it is laid out as the bytes it was read from.
+-- Reading a record that stands alone: what is read is well-formed, its unused places are 0, and it is laid out as the bytes it was read from.
 -- Assumes nothing.
 use Rattle.std.specs.Prelude.{◌≡◌, refl, true, List, ℕ, ◌≤◌, ltb, length}
 use Rattle.std.proofs.Common.{◌∙◌, ltb-false, take_all}
@@ -40,7 +40,7 @@ module _ (s : List ℕ) (f : fine (read_form s).refusal ≡ true) where
   read-form = pick_true (fine (tail_of s (prefix_of s))) (prefix_of s).form empty_form f
 
 module _ (s : List ℕ) (b : Bytes s) (f : fine (read_form s).refusal ≡ true) where
-  -- a record that is read is well_formed
+  -- a record that is read is well-formed
   pub read-well-formed : WellFormed (read_form s).form
   read-well-formed = rw (read-form s f) (prefix-well-formed s b (read-alone s f).begun)
 
@@ -52,6 +52,6 @@ module _ (s : List ℕ) (b : Bytes s) (f : fine (read_form s).refusal ≡ true) 
   pub read-layout : layout (read_form s).form ≡ s
   read-layout = rw (read-form s f) (prefix-layout s b (read-alone s f).begun ∙ take_all (prefix_of s).size s (read-alone s f).all)
 
--- what the reader answered is well_formed, where it refused nothing
+-- what the reader answered is well-formed, where it refused nothing
 pub read-good : (s : List ℕ) (r : Record) → r ≡ read_form s → Bytes s → fine r.refusal ≡ true → WellFormed r.form
 read-good s r back b f = rw back (read-well-formed s b (rw back at f))

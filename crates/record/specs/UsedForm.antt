@@ -1,4 +1,4 @@
--- A form is well_formed if it is with its unused places 0.
+-- A form is well-formed if it is with its unused places 0.
 -- Assumes nothing.
 use Rattle.std.specs.Prelude.{◌≡◌, ℕ, ◌<◌, ◌≢◌}
 use Rattle.std.proofs.Math.Path.{sym, ap, subst}
@@ -50,7 +50,7 @@ module _ (f : Form) (z : Sized f) (w : WellFormed (used f)) where
     retiming-used =
         first-at (scheduled f) 0 f.retiming v (omega (arith, scheduled-all f.header.length f.header.nodes ne)) (omega (arith, z.retiming, w.nodes))
 
-  -- a form of which the used places are well_formed is well_formed
+  -- a form of which the used places are well-formed is well-formed
   pub used-well-formed : WellFormed f
   unfolding used
   used-well-formed =

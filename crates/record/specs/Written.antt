@@ -1,4 +1,4 @@
--- Reading what a held form is laid out as: the form's used places if it is well_formed, else the refusal of a field of it.
+-- Reading what a held form is laid out as: the form's used places if it is well-formed, else the refusal of a field of it.
 -- Assumes nothing.
 use Rattle.std.specs.Prelude.{◌≡◌, Bool, ◌⊎◌, ℕ, ◌+◌, ◌*◌, ◌<◌, ltb}
 use Rattle.std.proofs.Math.Path.{refl, ap}
@@ -36,7 +36,7 @@ use Rattle.record.specs.Laid.{laid-run}
 use Rattle.record.specs.UsedForm.{used-well-formed}
 
 module _ (f : Form) (h : Held f) (rest : List ℕ) (tail : Bytes rest) where
-  -- what is read of a well_formed form has a retiming that is 0
+  -- what is read of a well-formed form has a retiming that is 0
   normal : WellFormed f → (x : Reading) → StartsSofar (followed f rest) (head_starts (followed f rest)) x
       → normalized x.form.header.length x.form.header.nodes x.form.retiming ≡ true
   normal w x p =
@@ -61,7 +61,7 @@ module _ (f : Form) (h : Held f) (rest : List ℕ) (tail : Bytes rest) where
       let a : x.next.at ≡ starts_after (followed f rest) + 3 * head_starts (followed f rest) = ap (λ (c : Cursor). c.at) p.next in
       omega (arith, fits-length f k.fits, k.classes, k.nodes, k.edges, starts-same f h rest k)
 
-  -- a well_formed form is read back from the front, with its unused places 0, whatever is left past its bytes
+  -- a well-formed form is read back from the front, with its unused places 0, whatever is left past its bytes
   pub well-formed-front : WellFormed f → prefix_of (layout f ++ rest) ≡ record { refusal = None; size = length (layout f); form = used f }
   unfolding prefix_of fronted end_of fine pick
   well-formed-front w = go (fine (starts_read (followed f rest)).next.refusal) refl
@@ -73,7 +73,7 @@ module _ (f : Form) (h : Held f) (rest : List ℕ) (tail : Bytes rest) where
           rw (e, normal w x p, at-end x p, reads-used f h rest x p)
       go false e = absurd (((laid-run f h rest tail).off e).never w)
 
-  -- a form whose bytes are read from the front without a refusal is well_formed
+  -- a form whose bytes are read from the front without a refusal is well-formed
   pub front-well-formed : fine (prefix_of (layout f ++ rest)).refusal ≡ true → WellFormed f
   front-well-formed e =
       let s : List ℕ = followed f rest in
@@ -100,11 +100,11 @@ module _ (f : Form) (h : Held f) where
   none_left : layout f ++ [] ≡ layout f
   none_left = append-nil (layout f)
 
-  -- a well_formed form is read back from its bytes, with its unused places 0
+  -- a well-formed form is read back from its bytes, with its unused places 0
   pub well-formed-written : WellFormed f → read_form (layout f) ≡ record { refusal = None; form = used f }
   well-formed-written w = alone-is (layout f) (used f) (rw none_left at (well-formed-front f h [] bytes-nil w))
 
-  -- a form whose bytes are read without a refusal is well_formed
+  -- a form whose bytes are read without a refusal is well-formed
   pub written-well-formed : fine (read_form (layout f)).refusal ≡ true → WellFormed f
   written-well-formed e = front-well-formed f h [] bytes-nil (rw none_left (read-alone (layout f) e).begun)
 

@@ -29,7 +29,7 @@ pub record Seated (g : Loop) (p : Pair) : Type 0 where
   pub starts : Starting g p
   pub class : (v : ℕ) → v < g.graph.nodes → ran_on g v < g.classes
 
--- so does every node of a well_formed form with a schedule
+-- so does every node of a well-formed form with a schedule
 pub seated-form : (f : Form) → WellFormed f → f.header.length ≢ 0 → Seated (loop_of f) (pair_of f)
 unfolding loop_of pair_of graph_of
 seated-form f w n = record {

@@ -33,7 +33,7 @@ use Rattle.issue.specs.Issue.{machine_of, IssueTold, Outcome, SameSizes}
 use Rattle.run.specs.Going.{Before}
 use Rattle.run.proofs.Laws.{starts-in}
 
--- a well_formed form has up to 4 classes of up to 8 units
+-- a well-formed form has up to 4 classes of up to 8 units
 pub boarded-form : (f : Form) → WellFormed f → Boarded (loop_of f)
 unfolding loop_of graph_of
 boarded-form f w = record { few_classes = w.classes.1; few_units = λ c l. (w.class c l).units.1; on-class = w.node }

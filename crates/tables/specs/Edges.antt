@@ -22,7 +22,7 @@ pub record Told (g : Loop) (nodes edges : ℕ) (from to delays : List ℕ) : Typ
   pub is_head : (e : ℕ) → e < edges → g.graph.head e ≡ get_or to e 0
   pub is_delay : (e : ℕ) → e < edges → g.delay e ≡ get_or delays e 0
 
--- a well_formed form's tables are such tables
+-- a well-formed form's tables are such tables
 pub ends-form : (f : Form) → WellFormed f → Ends f.header.nodes f.header.edges f.from f.to
 ends-form f w = record {
   some = w.nodes.0;

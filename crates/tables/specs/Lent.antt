@@ -10,7 +10,7 @@ use Rattle.tables.specs.declared.Timetable.{Timetable}
 use Rattle.tables.specs.Edges.{Ends, Told, told-form}
 use Rattle.tables.specs.Times.{times_of, SoundTimes, Timed, timed-form}
 
--- the tables are those of a well_formed form
+-- the tables are those of a well-formed form
 pub record Lent (f : Form) (edges : ℕ) (from to delays : List ℕ) (t : Timetable) : Type 0 where
   pub good : WellFormed f
   pub told : Told (loop_of f) t.nodes edges from to delays

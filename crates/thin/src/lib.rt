@@ -1,5 +1,5 @@
-// A record's bytes and a place among them in one struct, and thin functions over it. The borrow checker covers no function
-// over such a struct, so each is proved by hand; the work is left to covered functions on a plain slice and a number.
+// A record's bytes and a place among them in one struct, and thin functions over it; the work is left to functions on a
+// plain slice and a number.
 #![tactic(auto)]
 
 ghost use Rattle.std.specs.Prelude.{◌≡◌, ◌<◌, length};

@@ -1,4 +1,4 @@
--- The form with its first schedule: well_formed, held, written without refusal but Room, legal.
+-- The form with its first schedule: well-formed, held, written without refusal but Room, legal.
 -- Assumes nothing.
 use Rattle.std.specs.Prelude.{◌≡◌, refl, false, ◌⊎◌, ◌≢◌, ℕ, ◌≤◌, ◌<◌, ltb, replicate}
 use Rattle.std.proofs.Common.{sym, ◌∙◌, arith}
@@ -65,7 +65,7 @@ module _ (f : Form) (w : WellFormed f) (free : knotted (loop_of f) ≡ false) wh
   unfolding loop_of graph_of
   first-soon v l = omega (arith, filled.ends v l)
 
-  -- it is well_formed
+  -- it is well-formed
   pub first-well-formed : WellFormed (first_form f)
   unfolding first_form with_pair loop_of graph_of
   first-well-formed = record {

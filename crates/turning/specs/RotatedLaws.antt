@@ -1,4 +1,4 @@
--- A form rotated, where that is not too long: well_formed, held, written without refusal but Room, legal.
+-- A form rotated, where that is not too long: well-formed, held, written without refusal but Room, legal.
 -- Assumes nothing.
 use Rattle.std.specs.Prelude.{◌≡◌, false, ◌⊎◌, ◌≢◌, ℕ, ◌+◌, ◌≤◌, ◌<◌, ltb}
 use Rattle.std.proofs.Math.Path.{refl, ap, subst}
@@ -115,7 +115,7 @@ module _ (f : Form) (w : WellFormed f) (legal : Legal (loop_of f) (pair_of f)) (
     unfolding too_long
     rotated-form-short = ltb-false 512 (rotated_length f z) fits
 
-    -- it is well_formed
+    -- it is well-formed
     pub rotated-well-formed : WellFormed (rotated f z)
     unfolding rotated with_pair loop_of graph_of turned_by
     rotated-well-formed = record {

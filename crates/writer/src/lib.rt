@@ -151,7 +151,7 @@ fn put_edges<'a>(
     count: usize,
 ) -> usize
     requires { (count ≤ 256) × (at + 3 * count ≤ 1367) }
-    ensures { (result ≡ at + 3 * count) × Laid out.old at (rows (λ e. edge_bytes (record { from = get_or from.entry.now e 0; to = get_or to.now e 0; delays = get_or delays.now e 0 })) count) out.new result }
+    ensures { (result ≡ at + 3 * count) × Laid out.old at (rows (λ e. edge_bytes (record { from = get_or from.now e 0; to = get_or to.now e 0; delays = get_or delays.now e 0 })) count) out.new result }
 {
     let mut next = at;
     let mut i: usize = 0;

@@ -13,11 +13,11 @@ loop-left-init c = (search rules, let z : c.args.width - c.args.width ≡ 0 = om
 
 pub overflow_mul-value : goal.overflow_mul-value
 overflow_mul-value c =
-    omega (arith, number_small c.args.s.now (λ i. (c.shared_slice_known-1.given i).fits) (c.args.width - c.loop-left.left) 3 (c.args.at + c.loop-left.left) (omega arith))
+    omega (arith, number_small c.args.s.now (λ i. omega (arith, c.type_inv.s i)) (c.args.width - c.loop-left.left) 3 (c.args.at + c.loop-left.left) (omega arith))
 
 pub overflow_add-value : goal.overflow_add-value
 overflow_add-value c =
-    omega (arith, number_small c.args.s.now (λ i. (c.shared_slice_known-1.given i).fits) (c.args.width - c.loop-left.left) 3 (c.args.at + c.loop-left.left) (omega arith))
+    omega (arith, number_small c.args.s.now (λ i. omega (arith, c.type_inv.s i)) (c.args.width - c.loop-left.left) 3 (c.args.at + c.loop-left.left) (omega arith))
 
 pub loop-left-preserved : goal.loop-left-preserved
 loop-left-preserved c =

@@ -19,24 +19,24 @@ returns-then-not-is_fine c = entry-unread _ _ _ _ _ _ c.read-read.ensures (sym c
 
 pub times_of-times-requires : goal.times_of-times-requires
 times_of-times-requires c =
-    read-good c.args.«record».now _ c.read-read.ensures (λ i. omega (arith, c.shared_slice_known-1.given i))
+    read-good c.args.«record».now _ c.read-read.ensures (λ i. omega (arith, c.type_inv.«record» i))
     (sym c.is_fine.ensures ∙ c.if-not-is_fine.false)
 
 pub plan_tables-plan-requires : goal.plan_tables-plan-requires
 plan_tables-plan-requires c =
-    let w = read-good c.args.«record».now _ c.read-read.ensures (λ i. omega (arith, c.shared_slice_known-1.given i)) (sym c.is_fine.ensures ∙ c.if-not-is_fine.false) in
+    let w = read-good c.args.«record».now _ c.read-read.ensures (λ i. omega (arith, c.type_inv.«record» i)) (sym c.is_fine.ensures ∙ c.if-not-is_fine.false) in
     (c.read-read.result.form, lent-form _ _ w c.times_of-times.ensures)
 
 pub write_plan-requires : goal.write_plan-requires
 write_plan-requires c =
     let good = sym c.is_fine.ensures ∙ c.if-not-is_fine.false in
-    let known = well-read c.args.«record».now _ c.read-read.ensures (λ i. omega (arith, c.shared_slice_known-1.given i)) good in
+    let known = well-read c.args.«record».now _ c.read-read.ensures (λ i. omega (arith, c.type_inv.«record» i)) good in
     plan-taken fit_of fitted_form unturned c.args.«record».now c.args.out.now _ c.read-read.ensures known fit-writes _
-    (c.plan_tables-plan.ensures _ (tabled-form _ _ known.good c.times_of-times.ensures) (read_kept c.args.«record».now _ c.read-read.ensures (λ i. omega (arith, c.shared_slice_known-1.given i)) good))
+    (c.plan_tables-plan.ensures _ (tabled-form _ _ known.good c.times_of-times.ensures) (read_kept c.args.«record».now _ c.read-read.ensures (λ i. omega (arith, c.type_inv.«record» i)) good))
 
 pub returns : goal.returns
 returns c =
     let good = sym c.is_fine.ensures ∙ c.if-not-is_fine.false in
-    let known = well-read c.args.«record».now _ c.read-read.ensures (λ i. omega (arith, c.shared_slice_known-1.given i)) good in
+    let known = well-read c.args.«record».now _ c.read-read.ensures (λ i. omega (arith, c.type_inv.«record» i)) good in
     entry-planned fit_of fitted_form unturned c.args.«record».now c.args.out.now _ c.read-read.ensures known fit-writes _
-    (c.plan_tables-plan.ensures _ (tabled-form _ _ known.good c.times_of-times.ensures) (read_kept c.args.«record».now _ c.read-read.ensures (λ i. omega (arith, c.shared_slice_known-1.given i)) good)) _ _ c.write_plan.ensures
+    (c.plan_tables-plan.ensures _ (tabled-form _ _ known.good c.times_of-times.ensures) (read_kept c.args.«record».now _ c.read-read.ensures (λ i. omega (arith, c.type_inv.«record» i)) good)) _ _ c.write_plan.ensures

@@ -14,13 +14,13 @@ returns-then-not-is_fine c =
 
 pub times_of-times-requires : goal.times_of-times-requires
 times_of-times-requires c =
-    read-good c.args.«record».now _ c.read-read.ensures (λ i. omega (arith, c.shared_slice_known-1.given i)) (sym c.is_fine.ensures ∙ c.if-not-is_fine.false)
+    read-good c.args.«record».now _ c.read-read.ensures (λ i. omega (arith, c.type_inv.«record» i)) (sym c.is_fine.ensures ∙ c.if-not-is_fine.false)
 
 pub floor_tables-requires : goal.floor_tables-requires
 floor_tables-requires c =
-    (c.read-read.result.form, lent-form _ _ (read-good c.args.«record».now _ c.read-read.ensures (λ i. omega (arith, c.shared_slice_known-1.given i)) (sym c.is_fine.ensures ∙ c.if-not-is_fine.false)) c.times_of-times.ensures)
+    (c.read-read.result.form, lent-form _ _ (read-good c.args.«record».now _ c.read-read.ensures (λ i. omega (arith, c.type_inv.«record» i)) (sym c.is_fine.ensures ∙ c.if-not-is_fine.false)) c.times_of-times.ensures)
 
 pub returns : goal.returns
 returns c =
     record-floored _ _ c.read-read.ensures _ (sym c.is_fine.ensures ∙ c.if-not-is_fine.false)
-    (c.floor_tables.ensures _ (lent-form _ _ (read-good c.args.«record».now _ c.read-read.ensures (λ i. omega (arith, c.shared_slice_known-1.given i)) (sym c.is_fine.ensures ∙ c.if-not-is_fine.false)) c.times_of-times.ensures))
+    (c.floor_tables.ensures _ (lent-form _ _ (read-good c.args.«record».now _ c.read-read.ensures (λ i. omega (arith, c.type_inv.«record» i)) (sym c.is_fine.ensures ∙ c.if-not-is_fine.false)) c.times_of-times.ensures))

@@ -13,17 +13,17 @@ returns-then-not-is_fine c =
 
 pub times_of-times-requires : goal.times_of-times-requires
 times_of-times-requires c =
-    read-good c.args.«record».now _ c.read-read.ensures (λ i. omega (arith, c.shared_slice_known-1.given i)) (sym c.is_fine.ensures ∙ c.if-not-is_fine.false)
+    read-good c.args.«record».now _ c.read-read.ensures (λ i. omega (arith, c.type_inv.«record» i)) (sym c.is_fine.ensures ∙ c.if-not-is_fine.false)
 
 pub judge_tables-requires : goal.judge_tables-requires
 judge_tables-requires c = (
   c.read-read.result.form,
-  lent-form _ _ (read-good c.args.«record».now _ c.read-read.ensures (λ i. omega (arith, c.shared_slice_known-1.given i)) (sym c.is_fine.ensures ∙ c.if-not-is_fine.false))
+  lent-form _ _ (read-good c.args.«record».now _ c.read-read.ensures (λ i. omega (arith, c.type_inv.«record» i)) (sym c.is_fine.ensures ∙ c.if-not-is_fine.false))
       c.times_of-times.ensures,
 )
 
 pub returns : goal.returns
 returns c =
     let fine = sym c.is_fine.ensures ∙ c.if-not-is_fine.false in
-    let w = read-good c.args.«record».now _ c.read-read.ensures (λ i. omega (arith, c.shared_slice_known-1.given i)) fine in
+    let w = read-good c.args.«record».now _ c.read-read.ensures (λ i. omega (arith, c.type_inv.«record» i)) fine in
     record-judged _ _ c.read-read.ensures _ fine (c.judge_tables.ensures _ (lent-form _ _ w c.times_of-times.ensures))

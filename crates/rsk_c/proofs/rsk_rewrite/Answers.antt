@@ -13,7 +13,7 @@ returns-then-not-is_fine c =
 
 pub write_taken-written-requires : goal.write_taken-written-requires
 write_taken-written-requires c =
-    taken _ c.args.out.now _ c.read-read.ensures (λ i. omega (arith, c.shared_slice_known-1.given i))
+    taken _ c.args.out.now _ c.read-read.ensures (λ i. omega (arith, c.type_inv.«record» i))
     (sym c.is_fine.ensures ∙ c.if-not-is_fine.false)
 
 pub returns : goal.returns
