@@ -1,6 +1,5 @@
 -- `commands::number_of` meets its contract: what is left makes of the number so far what the word is.
 -- Assumes nothing.
-use Prim.Native.Nat.{◌-◌}
 use native.Mathlib.Omega.{arith}
 use borrow.Author.Rules.{rules}
 use Rattle.commands.proofs.Laws.{no-digits, some-digits, number-none, number_more, number-whole}

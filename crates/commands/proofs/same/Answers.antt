@@ -1,7 +1,6 @@
 -- `commands::same` meets its contract: the bytes that are left are the same as the whole words are.
 -- Assumes nothing.
 use mathlib.Core.Path.{refl}
-use Prim.Native.Nat.{◌-◌}
 use native.Mathlib.Omega.{arith}
 use borrow.Author.Rules.{rules}
 use Rattle.commands.proofs.Laws.{other_length, other_byte, same_more, same_whole}

@@ -1,7 +1,6 @@
 -- `cycle::best_start` meets its contract. The loop's invariant: the start is the best of the nodes passed.
 -- Assumes nothing.
 use mathlib.Core.Path.{◌≡◌}
-use Prim.Native.Nat.{◌-◌}
 use native.Mathlib.Omega.{arith}
 use Rattle.cycle.specs.Found.{best_none, best-better, best-kept}
 use Rattle.cycle.proofs.best_start.Goals.{else-count-best, then-count-best}

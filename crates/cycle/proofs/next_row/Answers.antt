@@ -1,7 +1,7 @@
 -- `cycle::next_row` meets its contract. The loop's invariant: the next row so far is what the edges passed bring.
 -- Assumes nothing.
 use mathlib.Core.Path.{◌≡◌}
-use Prim.Native.Nat.{◌<◌, ◌-◌}
+use Prim.Native.Nat.{◌<◌}
 use lib.ListN.{get_or, length-set}
 use native.Mathlib.Omega.{arith}
 use borrow.Author.Rules.{rules}

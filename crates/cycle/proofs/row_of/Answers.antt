@@ -1,7 +1,6 @@
 -- `cycle::row_of` meets its contract. The loop's invariant: the row is the one of so many edges as turns.
 -- Assumes nothing.
 use mathlib.Core.Path.{◌≡◌}
-use Prim.Native.Nat.{◌-◌}
 use native.Mathlib.Omega.{arith}
 use Rattle.system.specs.System.{system_of}
 use Rattle.cycle.specs.Row.{row-none, row_more}

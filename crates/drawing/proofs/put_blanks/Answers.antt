@@ -1,6 +1,5 @@
 -- `drawing::put_blanks` meets its contract: a blank more each turn.
 -- Assumes nothing.
-use Prim.Native.Nat.{◌-◌}
 use native.Mathlib.Omega.{arith}
 use Rattle.laid.specs.Laws.{same-long}
 use Rattle.drawing.proofs.Laws.{tests, no-blank, blank-more, blanks-whole}

@@ -1,6 +1,5 @@
 -- `drawing::put_columns` meets its contract: the loop's invariant is that the first columns are laid.
 -- Assumes nothing.
-use Prim.Native.Nat.{◌-◌}
 use native.Mathlib.Omega.{arith}
 use Rattle.laid.specs.Rows.{rows}
 use Rattle.laid.specs.Laws.{nothing, row_more, rows_whole}

@@ -1,6 +1,5 @@
 -- `drawing::put_rows` meets its contract: the loop's invariant is that the first rows are laid.
 -- Assumes nothing.
-use Prim.Native.Nat.{◌-◌}
 use native.Mathlib.Omega.{arith}
 use Rattle.laid.specs.Rows.{rows}
 use Rattle.laid.specs.Laws.{nothing, row_more, rows_whole}

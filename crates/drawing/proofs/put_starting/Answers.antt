@@ -1,6 +1,5 @@
 -- `drawing::put_starting` meets its contract: the loop's invariant is that the first nodes are laid.
 -- Assumes nothing.
-use Prim.Native.Nat.{◌-◌}
 use native.Mathlib.Omega.{arith}
 use Rattle.laid.specs.Rows.{rows}
 use Rattle.laid.specs.Laws.{nothing, rows_whole, same-long}

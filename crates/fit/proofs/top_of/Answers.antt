@@ -1,7 +1,6 @@
 -- `fit::top_of` meets its contract: the largest of the values passed is kept.
 -- Assumes nothing.
 use mathlib.Core.Path.{◌≡◌}
-use Prim.Native.Nat.{◌-◌}
 use native.Mathlib.Omega.{arith}
 use borrow.Author.Rules.{rules}
 use Rattle.fit.proofs.Laws.{top-none, top-more}

@@ -1,7 +1,6 @@
 -- `fit::turned` meets its contract: the places passed are filled.
 -- Assumes nothing.
 use mathlib.Core.Path.{◌≡◌, refl}
-use Prim.Native.Nat.{◌-◌}
 use native.Mathlib.Omega.{arith}
 use borrow.Author.Rules.{rules}
 use Rattle.lists.specs.Filled.{fill_none, fill_more}

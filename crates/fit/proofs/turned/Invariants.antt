@@ -1,7 +1,7 @@
 -- `fit::turned` meets its contract: the places passed are filled.
 -- Assumes nothing.
 use mathlib.Core.Path.{◌≡◌}
-use Prim.Native.Nat.{◌≤◌, ◌-◌}
+use Prim.Native.Nat.{◌≤◌}
 use Rattle.fit.specs.Tables.{turned_over}
 use Rattle.fit.proofs.turned.Given as goal
 

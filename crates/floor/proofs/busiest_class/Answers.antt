@@ -1,7 +1,7 @@
 -- `floor::busiest_class` meets its contract: the busiest of the classes passed is kept.
 -- Assumes nothing.
 use mathlib.Core.Path.{◌≡◌, subst}
-use Prim.Native.Nat.{ℕ, ◌-◌}
+use Prim.Native.Nat.{ℕ}
 use native.Mathlib.Omega.{arith}
 use Rattle.floor.specs.Tables.{Busy}
 use Rattle.floor.proofs.Laws.{busy-none, busy-here, busy-past, part-is}

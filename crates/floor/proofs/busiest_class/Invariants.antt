@@ -1,6 +1,6 @@
 -- `floor::busiest_class` meets its contract: the busiest of the classes passed is kept.
 -- Assumes nothing.
-use Prim.Native.Nat.{◌≤◌, ◌-◌}
+use Prim.Native.Nat.{◌≤◌}
 use Rattle.legal.specs.Loop.{Loop, Pair}
 use Rattle.tables.specs.Times.{Timed}
 use Rattle.floor.specs.Tables.{Busy}

@@ -1,6 +1,5 @@
 -- `floor::costs_of` meets its contract: the places passed are filled.
 -- Assumes nothing.
-use Prim.Native.Nat.{◌-◌}
 use native.Mathlib.Omega.{arith}
 use lib.ListN.{get_or}
 use Rattle.lists.specs.Place.{filled_more}

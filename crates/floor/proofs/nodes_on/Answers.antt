@@ -1,7 +1,6 @@
 -- `floor::nodes_on` meets its contract: the nodes passed are counted.
 -- Assumes nothing.
 use mathlib.Core.Path.{◌≡◌}
-use Prim.Native.Nat.{◌-◌}
 use native.Mathlib.Omega.{arith}
 use Rattle.floor.proofs.Laws.{many-none, many-here, many-past}
 use Rattle.floor.proofs.nodes_on.Goals.{else-runs-v, then-runs-v}

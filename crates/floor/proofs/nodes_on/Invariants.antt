@@ -1,7 +1,7 @@
 -- `floor::nodes_on` meets its contract: the nodes passed are counted.
 -- Assumes nothing.
 use mathlib.Core.Path.{◌≡◌}
-use Prim.Native.Nat.{◌≤◌, ◌-◌}
+use Prim.Native.Nat.{◌≤◌}
 use Rattle.floor.specs.Tables.{how_many}
 use Rattle.floor.proofs.nodes_on.Given as goal
 

@@ -1,6 +1,6 @@
 -- `issue::free_unit` meets its contract: the first free unit of those that are left is the first of all.
 -- Assumes nothing.
-use Prim.Native.Nat.{◌+◌, ◌*◌, ◌-◌}
+use Prim.Native.Nat.{◌+◌, ◌*◌}
 use native.Mathlib.Omega.{arith}
 use native.Mathlib.Nat.{sub-zero}
 use borrow.Author.Rules.{rules}

@@ -1,7 +1,6 @@
 -- `issue::late_edge` meets its contract: the first late edge from the walk's edge on is the first of all.
 -- Assumes nothing.
 use mathlib.Core.Path.{sym, ◌∙◌}
-use Prim.Native.Nat.{◌-◌}
 use native.Mathlib.Omega.{arith}
 use Rattle.issue.specs.Late.{seeking-first, seeking-next, seeking-here, seeking-end, late-missing}
 use Rattle.issue.proofs.late_edge.Goals as goal

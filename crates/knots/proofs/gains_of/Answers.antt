@@ -1,6 +1,6 @@
 -- `knots::gains_of` meets its contract: the places passed are filled.
 -- Assumes nothing.
-use Prim.Native.Nat.{◌*◌, ◌-◌}
+use Prim.Native.Nat.{◌*◌}
 use native.Mathlib.Omega.{arith}
 use lib.ListN.{get_or}
 use borrow.Author.Rules.{rules}

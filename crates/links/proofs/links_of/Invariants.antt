@@ -1,6 +1,6 @@
 -- `links::links_of` meets its contract: the edges from e on are linked.
 -- Assumes nothing.
-use Prim.Native.Nat.{◌-◌, ◌≤◌}
+use Prim.Native.Nat.{◌≤◌}
 use lib.ListN.{get_or}
 use Rattle.links.proofs.Laws.{LinkedFrom}
 use Rattle.links.proofs.links_of.Given as goal

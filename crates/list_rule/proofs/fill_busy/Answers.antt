@@ -1,7 +1,6 @@
 -- `list_rule::fill_busy` meets its contract: the nodes passed are in use.
 -- Assumes nothing.
 use mathlib.Core.Path.{◌∙◌}
-use Prim.Native.Nat.{◌-◌}
 use native.Mathlib.Omega.{arith}
 use borrow.Author.Rules.{rules}
 use Rattle.list_rule.specs.Tables.{OnBoard}

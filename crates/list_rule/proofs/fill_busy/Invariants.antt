@@ -1,6 +1,6 @@
 -- `list_rule::fill_busy` meets its contract: the nodes passed are in use.
 -- Assumes nothing.
-use Prim.Native.Nat.{◌≤◌, ◌-◌}
+use Prim.Native.Nat.{◌≤◌}
 use Rattle.list_rule.specs.Tables.{Used}
 use Rattle.list_rule.proofs.fill_busy.Given as goal
 

@@ -1,6 +1,5 @@
 -- `list_rule::keys_of` meets its contract: the nodes passed have keys that make up 255 with their weights.
 -- Assumes nothing.
-use Prim.Native.Nat.{◌-◌}
 use native.Mathlib.Omega.{arith}
 use native.Mathlib.Nat.{not-suc-le-zero}
 use lib.ListN.{length-set}

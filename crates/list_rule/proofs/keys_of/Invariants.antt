@@ -1,7 +1,7 @@
 -- `list_rule::keys_of` meets its contract: the nodes passed have keys that make up 255 with their weights.
 -- Assumes nothing.
 use mathlib.Core.Path.{◌≡◌}
-use Prim.Native.Nat.{ℕ, ◌+◌, ◌-◌, ◌≤◌, ◌<◌}
+use Prim.Native.Nat.{ℕ, ◌+◌, ◌≤◌, ◌<◌}
 use lib.ListN.{length, get_or}
 use Rattle.list_rule.proofs.keys_of.Given as goal
 

@@ -1,7 +1,7 @@
 -- `list_rule::list_rule` meets its contract: in each of its three loops the rest of the rule equals the whole.
 -- Assumes nothing.
 use mathlib.Core.Path.{refl, ◌∙◌}
-use Prim.Native.Nat.{ℕ, ◌<◌, ◌-◌}
+use Prim.Native.Nat.{ℕ, ◌<◌}
 use native.Mathlib.Omega.{arith}
 use lib.ListN.{get_or}
 use borrow.Author.Rules.{rules}

@@ -1,7 +1,7 @@
 -- `list_rule::list_rule` meets its contract: in each of its three loops the rest of the rule equals the whole.
 -- Assumes nothing.
 use mathlib.Core.Path.{◌≡◌}
-use Prim.Native.Nat.{◌≤◌, ◌-◌}
+use Prim.Native.Nat.{◌≤◌}
 use Rattle.list_rule.proofs.Steps.{Filling, Trying, Searching}
 use Rattle.list_rule.proofs.list_rule.Given as goal
 

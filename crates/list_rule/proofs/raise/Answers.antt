@@ -1,7 +1,7 @@
 -- `list_rule::raise` meets its contract: the steps passed are raised.
 -- Assumes nothing.
 use mathlib.Core.Path.{◌≡◌}
-use Prim.Native.Nat.{◌+◌, ◌-◌}
+use Prim.Native.Nat.{◌+◌}
 use native.Mathlib.Omega.{arith}
 use borrow.Author.Rules.{rules}
 use Rattle.list_rule.proofs.Units.{raised-not-placed, raised-none, raised-here, raised-more}

@@ -1,6 +1,6 @@
 -- `list_rule::raise` meets its contract: the steps passed are raised.
 -- Assumes nothing.
-use Prim.Native.Nat.{◌≤◌, ◌-◌}
+use Prim.Native.Nat.{◌≤◌}
 use Rattle.list_rule.specs.Tables.{Raised}
 use Rattle.list_rule.proofs.raise.Given as goal
 

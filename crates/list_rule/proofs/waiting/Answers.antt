@@ -1,6 +1,6 @@
 -- `list_rule::waiting` meets its contract: the edges passed are counted at their heads.
 -- Assumes nothing.
-use Prim.Native.Nat.{◌<◌, ◌-◌}
+use Prim.Native.Nat.{◌<◌}
 use native.Mathlib.Omega.{arith}
 use lib.ListN.{get_or}
 use borrow.Author.Rules.{rules}

@@ -1,6 +1,6 @@
 -- `list_rule::waiting` meets its contract: the edges passed are counted at their heads.
 -- Assumes nothing.
-use Prim.Native.Nat.{◌≤◌, ◌-◌}
+use Prim.Native.Nat.{◌≤◌}
 use Rattle.list_rule.specs.Tables.{WaitsTabled}
 use Rattle.list_rule.proofs.waiting.Given as goal
 

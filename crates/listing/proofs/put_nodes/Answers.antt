@@ -1,6 +1,5 @@
 -- `listing::put_nodes` meets its contract: the loop's invariant is that the first nodes of the step are laid.
 -- Assumes nothing.
-use Prim.Native.Nat.{◌-◌}
 use native.Mathlib.Omega.{arith}
 use Rattle.laid.specs.Rows.{rows}
 use Rattle.laid.specs.Laws.{nothing, same-long}

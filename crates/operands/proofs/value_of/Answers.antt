@@ -1,7 +1,7 @@
 -- `operands::value_of` meets its contract: the operands that are left finish the whole.
 -- Assumes nothing.
 use mathlib.Core.Path.{◌∙◌}
-use Prim.Native.Nat.{◌-◌, ◌<◌}
+use Prim.Native.Nat.{◌<◌}
 use native.Mathlib.Omega.{arith}
 use Rattle.operands.proofs.Laws.{walking-first, walking_on, walking-end}
 use Rattle.operands.proofs.value_of.Goals as goal

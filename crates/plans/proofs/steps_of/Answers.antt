@@ -1,7 +1,6 @@
 -- `plans::steps_of` meets its contract: the numbers passed are steps.
 -- Assumes nothing.
 use mathlib.Core.Path.{refl, ◌∙◌}
-use Prim.Native.Nat.{◌-◌}
 use native.Mathlib.Omega.{arith}
 use borrow.Author.Rules.{rules}
 use Rattle.plans.proofs.Steps.{stepped-none, stepped-more, stepped-all}

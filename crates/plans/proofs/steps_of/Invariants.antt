@@ -1,7 +1,7 @@
 -- `plans::steps_of` meets its contract: the numbers passed are steps.
 -- Assumes nothing.
 use mathlib.Core.Path.{◌≡◌}
-use Prim.Native.Nat.{◌≤◌, ◌-◌}
+use Prim.Native.Nat.{◌≤◌}
 use Rattle.plans.proofs.Steps.{stepped}
 use Rattle.plans.proofs.steps_of.Given as goal
 

@@ -1,7 +1,7 @@
 -- `reach::level` meets its contract: the nodes from place i on still wait.
 -- Assumes nothing.
 use mathlib.Core.Path.{◌≡◌, subst}
-use Prim.Native.Nat.{ℕ, ◌-◌}
+use Prim.Native.Nat.{ℕ}
 use native.Mathlib.Omega.{arith}
 use borrow.Author.Rules.{rules}
 use Rattle.reach.specs.Marking.{Marking, None}

@@ -1,6 +1,6 @@
 -- `reach::level` meets its contract: the nodes from place i on still wait.
 -- Assumes nothing.
-use Prim.Native.Nat.{ℕ, ◌-◌, ◌≤◌}
+use Prim.Native.Nat.{ℕ, ◌≤◌}
 use Rattle.legal.specs.Loop.{Loop}
 use Rattle.reach.specs.Tables.{TellsTight}
 use Rattle.reach.specs.Marking.{Queued, Marking, None}

@@ -1,6 +1,6 @@
 -- `reach::spread` meets its contract: the edges out of the node from edge e on are late.
 -- Assumes nothing.
-use Prim.Native.Nat.{◌-◌, ◌<◌}
+use Prim.Native.Nat.{◌<◌}
 use native.Mathlib.Omega.{arith}
 use Rattle.reach.proofs.Marks.{half-first, half-next, half-end}
 use Rattle.reach.proofs.spread.Goals as goal

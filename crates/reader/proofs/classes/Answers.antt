@@ -1,7 +1,6 @@
 -- `reader::classes` meets its contract: each class is read in turn.
 -- Assumes nothing.
 use mathlib.Core.Path.{sym, ◌∙◌}
-use Prim.Native.Nat.{◌-◌}
 use native.Mathlib.Omega.{arith}
 use borrow.Author.Rules.{rules}
 use Rattle.reader.specs.Tables.{class_step}

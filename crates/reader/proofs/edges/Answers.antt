@@ -1,7 +1,6 @@
 -- `reader::edges` meets its contract: each edge is read in turn.
 -- Assumes nothing.
 use mathlib.Core.Path.{sym, ◌∙◌}
-use Prim.Native.Nat.{◌-◌}
 use native.Mathlib.Omega.{arith}
 use borrow.Author.Rules.{rules}
 use Rattle.reader.specs.Tables.{edge_step}

@@ -1,6 +1,5 @@
 -- `reader::some_zero` meets its contract.
 -- Assumes nothing.
-use Prim.Native.Nat.{◌-◌}
 use native.Mathlib.Nat.{sub-zero}
 use borrow.Author.Rules.{rules}
 use Rattle.reader.specs.Reading.{some_zero}

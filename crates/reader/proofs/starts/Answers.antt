@@ -1,7 +1,6 @@
 -- `reader::starts` meets its contract: each start and retiming is read in turn.
 -- Assumes nothing.
 use mathlib.Core.Path.{sym, ◌∙◌}
-use Prim.Native.Nat.{◌-◌}
 use native.Mathlib.Omega.{arith}
 use borrow.Author.Rules.{rules}
 use Rattle.reader.specs.Tables.{start_step}

@@ -1,7 +1,7 @@
 -- `rules::busy_in` meets its contract: the nodes passed are summed up.
 -- Assumes nothing.
 use mathlib.Core.Path.{◌≡◌}
-use Prim.Native.Nat.{◌≤◌, ◌-◌, ◌*◌}
+use Prim.Native.Nat.{◌≤◌, ◌*◌}
 use Rattle.rules.specs.Busy.{busy_in}
 use Rattle.rules.proofs.busy_in.Given as goal
 

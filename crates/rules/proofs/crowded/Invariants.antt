@@ -1,6 +1,6 @@
 -- `rules::crowded` meets its contract: the lowest that the nodes passed enter is kept, and the lowest of all is the lowest there is.
 -- Assumes nothing.
-use Prim.Native.Nat.{◌≤◌, ◌-◌}
+use Prim.Native.Nat.{◌≤◌}
 use Rattle.legal.specs.Loop.{Loop, Pair}
 use Rattle.tables.specs.Times.{Timed}
 use Rattle.rules.specs.Busy.{Seated}

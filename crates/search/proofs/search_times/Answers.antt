@@ -1,6 +1,5 @@
 -- `search::search_times` meets its contract: the rest of the search equals the whole.
 -- Assumes nothing.
-use Prim.Native.Nat.{◌-◌}
 use native.Mathlib.Omega.{arith}
 use borrow.Author.Rules.{rules}
 use Rattle.search.proofs.Going.{begun_first, going-none, going-some, going_end, going-zero, going-turnable, going-long, going-turn}

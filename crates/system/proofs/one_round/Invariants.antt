@@ -1,6 +1,6 @@
 -- `system::one_round` meets its contract: what is left of the round gives what the whole round gives.
 -- Assumes nothing.
-use Prim.Native.Nat.{◌≤◌, ◌-◌}
+use Prim.Native.Nat.{◌≤◌}
 use Rattle.system.specs.System.{system_of}
 use Rattle.system.proofs.Laws.{Sofar}
 use Rattle.system.proofs.one_round.Given as goal

@@ -1,7 +1,7 @@
 -- `system::settle` meets its contract: the rounds that are left give what all of them give.
 -- Assumes nothing.
 use mathlib.Core.Path.{◌≡◌}
-use Prim.Native.Nat.{ℕ, ◌+◌, ◌-◌, ◌*◌, ◌≤◌}
+use Prim.Native.Nat.{ℕ, ◌+◌, ◌*◌, ◌≤◌}
 use lib.ListN.{get_or}
 use Rattle.system.specs.System.{system_of}
 use Rattle.system.specs.Rounds.{settle_from, settled_of}

@@ -1,7 +1,6 @@
 -- `tables::largest` meets its contract: the largest of the numbers passed is kept.
 -- Assumes nothing.
 use mathlib.Core.Path.{◌≡◌}
-use Prim.Native.Nat.{◌-◌}
 use native.Mathlib.Omega.{arith}
 use Rattle.tables.specs.Most.{most-none, most-more}
 use Rattle.tables.proofs.largest.Goals.{else-most-here, then-most-here}

@@ -1,6 +1,6 @@
 -- `tables::times_of` meets its contract: the places passed are filled.
 -- Assumes nothing.
-use Prim.Native.Nat.{◌<◌, ◌-◌}
+use Prim.Native.Nat.{◌<◌}
 use native.Mathlib.Omega.{arith}
 use borrow.Author.Rules.{rules}
 use Rattle.lists.specs.Filled.{fill_none, fill_more}

@@ -1,6 +1,5 @@
 -- `text::put_word` meets its contract: the loop's invariant is that its first bytes are laid.
 -- Assumes nothing.
-use Prim.Native.Nat.{◌-◌}
 use native.Mathlib.Omega.{arith}
 use Rattle.laid.specs.Laws.{nothing, same-long}
 use Rattle.text.proofs.Laws.{tests, byte_more, word-whole}

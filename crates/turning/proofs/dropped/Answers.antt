@@ -1,7 +1,6 @@
 -- `turning::dropped` meets its contract: the starts passed are lowered.
 -- Assumes nothing.
 use mathlib.Core.Path.{◌≡◌}
-use Prim.Native.Nat.{◌-◌}
 use native.Mathlib.Omega.{arith}
 use Rattle.lists.specs.Filled.{fill_none, fill_more}
 use Rattle.turning.proofs.dropped.Goals as goal

@@ -1,7 +1,6 @@
 -- `turning::gained` meets its contract: the retimings passed are raised where they should be.
 -- Assumes nothing.
 use mathlib.Core.Path.{◌≡◌}
-use Prim.Native.Nat.{◌-◌}
 use native.Mathlib.Omega.{arith}
 use borrow.Author.Rules.{rules}
 use Rattle.lists.specs.Filled.{fill_none, fill_more}

@@ -1,7 +1,7 @@
 -- `turning::gained` meets its contract: the retimings passed are raised where they should be.
 -- Assumes nothing.
 use mathlib.Core.Path.{◌≡◌}
-use Prim.Native.Nat.{◌≤◌, ◌+◌, ◌-◌}
+use Prim.Native.Nat.{◌≤◌, ◌+◌}
 use lib.Dec.{leb}
 use lib.ListN.{get_or}
 use Rattle.lists.specs.Pick.{pick}

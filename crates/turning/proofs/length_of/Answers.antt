@@ -1,7 +1,6 @@
 -- `turning::length_of` meets its contract: the last step of the nodes passed is kept.
 -- Assumes nothing.
 use mathlib.Core.Path.{sym, ◌∙◌}
-use Prim.Native.Nat.{◌-◌}
 use native.Mathlib.Omega.{arith}
 use borrow.Author.Rules.{rules}
 use Rattle.turning.proofs.Laws.{last_none, last_more, last-all}

@@ -1,7 +1,7 @@
 -- `turning::length_of` meets its contract: the last step of the nodes passed is kept.
 -- Assumes nothing.
 use mathlib.Core.Path.{◌≡◌}
-use Prim.Native.Nat.{ℕ, ◌≤◌, ◌<◌, ◌-◌}
+use Prim.Native.Nat.{ℕ, ◌≤◌, ◌<◌}
 use lib.ListN.{get_or}
 use Rattle.legal.specs.Loop.{Loop, latency}
 use Rattle.turning.proofs.Laws.{last_of}

@@ -1,6 +1,5 @@
 -- `words::put_edges` meets its contract: the rows of the edges before i are laid.
 -- Assumes nothing.
-use Prim.Native.Nat.{◌-◌}
 use native.Mathlib.Omega.{arith}
 use borrow.Author.Rules.{rules}
 use Rattle.laid.specs.Rows.{rows}

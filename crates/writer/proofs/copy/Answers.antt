@@ -1,6 +1,5 @@
 -- `writer::copy` meets its contract.
 -- Assumes nothing.
-use Prim.Native.Nat.{◌-◌}
 use native.Mathlib.Omega.{arith}
 use borrow.Author.Rules.{rules}
 use Rattle.laid.specs.Laws.{nothing}

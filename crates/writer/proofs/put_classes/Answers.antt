@@ -1,7 +1,6 @@
 -- `writer::put_classes` meets its contract.
 -- Assumes nothing.
 use mathlib.Core.Path.{◌≡◌}
-use Prim.Native.Nat.{◌-◌}
 use native.Mathlib.Omega.{arith}
 use Rattle.laid.specs.Rows.{rows}
 use Rattle.laid.specs.Laws.{nothing, row_more}
