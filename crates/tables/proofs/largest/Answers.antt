@@ -3,7 +3,6 @@
 use mathlib.Core.Path.{◌≡◌}
 use native.Mathlib.Omega.{arith}
 use Rattle.tables.specs.Most.{most-none, most-more}
-use Rattle.tables.proofs.largest.Goals.{else-most-here, then-most-here}
 use Rattle.tables.proofs.largest.Goals as goal
 
 pub loop-v-init : goal.loop-v-init
@@ -11,8 +10,7 @@ loop-v-init c = omega (arith, most-none c.args.table.now)
 
 pub loop-v-preserved : goal.loop-v-preserved
 loop-v-preserved c =
-    let more = most-more c.args.table.now c.loop-v.v in
-    elim c.if-most-here.branch [ then-most-here w ↦ omega (arith, more) | else-most-here w ↦ omega (arith, more) ]
+    let more = most-more c.args.table.now c.loop-v.v in grind (arith, more)
 
 pub returns : goal.returns
 returns c =
