@@ -105,7 +105,8 @@ fn longer(value: u32, byte: u8) -> u32
         return 65536;
     }
     let next = value * 10 + (byte - b'0') as u32;
-    if 65535 < next {
+    let above = 65535 < next;
+    if above {
         return 65536;
     }
     next

@@ -167,7 +167,8 @@ fn plan_tables<'a>(
     requires { (f : Form) × Lent f edges from.now to.now delays.now times }
     ensures { (f : Form) → Tabled f edges from.now to.now delays.now times → SameButPair f f → Planned fit_of fitted_form unturned f result }
 {
-    if times.length == 0 {
+    let bare = times.length == 0;
+    if bare {
         return plans::uncounted(Refusal::Bare, Cycle::none(), times);
     }
     let knot = knots::knot_of(times.nodes, edges, from, to, delays);

@@ -77,7 +77,8 @@ fn busy_steps(class: Class, on: u8) -> u16
     requires { (class.latency ≤ 8) × (on ≤ 64) }
     ensures { (result ≡ on * hold class) × (result ≤ 512) }
 {
-    if class.pipelined == 0 {
+    let plain = class.pipelined == 0;
+    if plain {
         return wide(on) * wide(class.latency);
     }
     wide(on)
@@ -304,7 +305,8 @@ pub fn floor_tables<'a>(
     ensures { (f : Form) → Lent f edges from.now to.now delays.now times → FormFloored f result }
 {
     let knot = knots::knot_of(times.nodes, edges, from, to, delays);
-    if 0 < knot.count {
+    let knotted = 0 < knot.count;
+    if knotted {
         return Floored {
             refusal: Refusal::Knot,
             floor: 0,

@@ -105,7 +105,8 @@ impl Form {
         ensures { result ≡ class_added self class }
     {
         let classes = self.header.classes;
-        if 4 <= classes {
+        let full = 4 <= classes;
+        if full {
             return Added {
                 form: self,
                 refusal: Refusal::Count(0),
@@ -126,7 +127,8 @@ impl Form {
         ensures { result ≡ node_added self node }
     {
         let nodes = self.header.nodes;
-        if 64 <= nodes {
+        let full = 64 <= nodes;
+        if full {
             return Added {
                 form: self,
                 refusal: Refusal::Count(0),
@@ -147,7 +149,8 @@ impl Form {
         ensures { result ≡ edge_added self edge }
     {
         let edges = self.header.edges;
-        if 256 <= edges {
+        let full = 256 <= edges;
+        if full {
             return Added {
                 form: self,
                 refusal: Refusal::Count(0),

@@ -42,7 +42,8 @@ pub fn judge_tables<'a>(
         return alone(Refusal::Bare);
     }
     let knot = knots::knot_of(times.nodes, edges, from, to, delays);
-    if 0 < knot.count {
+    let knotted = 0 < knot.count;
+    if knotted {
         return Judged {
             refusal: Refusal::Knot,
             cycle: knot,

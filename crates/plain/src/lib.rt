@@ -117,7 +117,8 @@ pub fn plain_form(form: Form, iterations: u16, starts: &[u32], values: &mut [u32
         &form.delays,
     );
     let cycle = ranking.cycle;
-    if 0 < cycle.count {
+    let knotted = 0 < cycle.count;
+    if knotted {
         return Looped {
             refusal: Refusal::Knot,
             cycle,

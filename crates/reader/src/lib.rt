@@ -310,7 +310,8 @@ fn tail(s: &[u8], next: Cursor) -> Refusal
     ensures { result ≡ pick (ltb next.at (length s.now)) (Tail next.at) None }
 {
     let at = next.at;
-    if at < s.len() {
+    let left = at < s.len();
+    if left {
         return Refusal::Tail(at as u32);
     }
     Refusal::None

@@ -24,7 +24,8 @@ fn first_plan<'a>(
     ensures { (f : Form) → Tabled f edges from.now to.now delays.now times → Planned first_asked first_form unturned f result }
 {
     let knot = knots::knot_of(times.nodes, edges, from, to, delays);
-    if 0 < knot.count {
+    let knotted = 0 < knot.count;
+    if knotted {
         return plans::uncounted(Refusal::Knot, knot, times);
     }
     let first = turning::first_times(edges, from, to, delays, times);

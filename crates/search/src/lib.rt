@@ -68,7 +68,8 @@ pub fn search_times<'a>(
             break;
         }
         let turned = turning::rotate_times(edges, from, to, delays, now, steps);
-        if 512 < turned.length {
+        let long = 512 < turned.length;
+        if long {
             break;
         }
         best = shorter_of(best, turned);

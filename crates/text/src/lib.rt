@@ -72,7 +72,8 @@ pub fn put_retiming(out: &mut [u8], at: usize, retiming: u8) -> usize
     requires { at ≤ 1800000 }
     ensures { (result ≤ at + 4) × Laid out.old at (retiming_text retiming) out.new result }
 {
-    if retiming == 0 {
+    let none = retiming == 0;
+    if none {
         return at;
     }
     let past = put_byte(out, at, b'+');

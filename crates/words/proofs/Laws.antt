@@ -1,8 +1,10 @@
 -- Text put piece by piece.
 -- Assumes nothing.
 use mathlib.Core.Path.{◌≡◌}
+use mathlib.Core.Logic.{◌≢◌}
 use mathlib.Core.List.{List, [], ◌∷◌}
 use Prim.Native.Nat.{ℕ, ◌+◌, ◌-◌, ◌/◌, ◌%◌, ◌≤◌, ◌<◌, min}
+use native.Mathlib.Omega.{arith}
 use lib.ListN.{length, get_or, get_or-eq_default}
 use borrow.Author.Rules.{rules}
 use borrow.Author.Tests.{le-ltb, lt-ltb, eq-eqb, ne_eqb}
@@ -57,3 +59,10 @@ module _ (answer : List ℕ) (from to : ℕ) (l : List ℕ) (at : ℕ) (m : List
   pub rule-reason : 11 ≤ get_or answer 0 0 → Laid l at (get_or (rule_texts answer from to) (get_or answer 0 0 - 11) []) m e → Laid l at (reason_text answer from to) m e
   unfolding reason_text
   rule-reason h x = rw (pick-false _ _ _ (le-ltb _ 11 h)) x
+
+-- one number more that it is not
+pub not-highest : (n k : ℕ) → n ≤ k + 1 → n ≢ k + 1 → n ≤ k
+not-highest n k h f = omega arith
+
+pub not-lowest : (n k : ℕ) → k ≤ n → n ≢ k → k + 1 ≤ n
+not-lowest n k h f = omega arith

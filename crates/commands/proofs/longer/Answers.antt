@@ -11,8 +11,8 @@ returns-then-byte-lt48 c = (search rules, below-digits _ _ c.if-byte-lt48.true)
 pub returns-then-byte-gt57 : goal.returns-then-byte-gt57
 returns-then-byte-gt57 c = (search rules, above-digits _ _ (omega arith) (omega arith))
 
-pub returns-then-next-gt65535 : goal.returns-then-next-gt65535
-returns-then-next-gt65535 c = (search rules, too_large _ _ (omega arith) (omega arith) (omega arith))
+pub returns-then-above : goal.returns-then-above
+returns-then-above c = (search rules, too_large _ _ (omega arith) (omega arith) (omega arith))
 
 pub returns : goal.returns
 returns c = (omega arith, one_digit_more _ _ (omega arith) (omega arith) (omega arith))

@@ -14,8 +14,8 @@ returns-then-times-eq0 c = λ f lent. judged-bare f _ (no_length f _ lent.timed 
 pub knot_of-knot-requires : goal.knot_of-knot-requires
 knot_of-knot-requires c = lent-ends c.requires.0 _ _ _ _ _ c.requires.1
 
-pub returns-then-knot-gt0 : goal.returns-then-knot-gt0
-returns-then-knot-gt0 c = λ f lent. judged-knot f (some-length f _ lent.timed c.if-times-eq0.false) _ (c.knot_of-knot.ensures _ lent.told) (omega (arith, c.if-knot-gt0.true))
+pub returns-then-knotted : goal.returns-then-knotted
+returns-then-knotted c = λ f lent. judged-knot f (some-length f _ lent.timed c.if-times-eq0.false) _ (c.knot_of-knot.ensures _ lent.told) (omega (arith, c.if-knotted.true))
 
 pub broken_edge-edge-requires : goal.broken_edge-edge-requires
 broken_edge-edge-requires c =
@@ -24,7 +24,7 @@ broken_edge-edge-requires c =
 pub returns-then-edge-edges : goal.returns-then-edge-edges
 returns-then-edge-edges c =
     λ f lent.
-    judged-rules f _ (some-length f _ lent.timed c.if-times-eq0.false) _ (c.knot_of-knot.ensures _ lent.told) (omega (arith, c.if-knot-gt0.false)) _
+    judged-rules f _ (some-length f _ lent.timed c.if-times-eq0.false) _ (c.knot_of-knot.ensures _ lent.told) (omega (arith, c.if-knotted.false)) _
     (edge-refused _ _ _ _ lent.told.all_edges (c.broken_edge-edge.ensures _ _ lent.told lent.timed) c.if-edge-edges.true) c.alone-then-edge-edges.ensures.0 c.alone-then-edge-edges.ensures.1
 
 pub crowded-crowded-requires : goal.crowded-crowded-requires
@@ -36,6 +36,6 @@ pub returns : goal.returns
 returns c =
     λ f lent.
     let some = some-length f _ lent.timed c.if-times-eq0.false in
-    judged-rules f _ some _ (c.knot_of-knot.ensures _ lent.told) c.if-knot-gt0.false _
+    judged-rules f _ some _ (c.knot_of-knot.ensures _ lent.told) c.if-knotted.false _
     (edges-kept _ _ _ _ lent.told.all_edges (c.broken_edge-edge.ensures _ _ lent.told lent.timed) c.if-edge-edges.false _ (c.crowded-crowded.ensures _ _ lent.timed (seated-form f lent.good some)))
     c.alone-2.ensures.0 c.alone-2.ensures.1

@@ -11,13 +11,13 @@ use Rattle.plain.proofs.plain_form.Goals as goal
 pub ranked-ranking-requires : goal.ranked-ranking-requires
 ranked-ranking-requires c = ends-form _ c.requires
 
-pub returns-then-cycle-gt0 : goal.returns-then-cycle-gt0
-returns-then-cycle-gt0 c =
-    looped-knot c.args.form _ _ _ _ (c.ranked-ranking.ensures (loop_of c.args.form) (told-form c.args.form)).found (omega (arith, c.if-cycle-gt0.true))
+pub returns-then-knotted : goal.returns-then-knotted
+returns-then-knotted c =
+    looped-knot c.args.form _ _ _ _ (c.ranked-ranking.ensures (loop_of c.args.form) (told-form c.args.form)).found (omega (arith, c.if-knotted.true))
 
 pub returns-then-not-is_fine : goal.returns-then-not-is_fine
 returns-then-not-is_fine c =
-    looped-refused c.args.form _ _ _ _ (c.ranked-ranking.ensures (loop_of c.args.form) (told-form c.args.form)).found (omega (arith, c.if-cycle-gt0.false)) _ c.room_of-room.ensures _ c.alone.ensures.1
+    looped-refused c.args.form _ _ _ _ (c.ranked-ranking.ensures (loop_of c.args.form) (told-form c.args.form)).found (omega (arith, c.if-knotted.false)) _ c.room_of-room.ensures _ c.alone.ensures.1
     (sym c.is_fine.ensures ∙ c.if-not-is_fine.true) c.alone.ensures.0
 
 pub iterate_all-requires : goal.iterate_all-requires
@@ -28,5 +28,5 @@ iterate_all-requires c =
 pub returns : goal.returns
 returns c =
     let f = c.ranked-ranking.ensures (loop_of c.args.form) (told-form c.args.form) in
-    looped-done c.args.form _ _ _ _ f.found c.if-cycle-gt0.false _ c.room_of-room.ensures _ c.alone-2.ensures.1 c.requires c.ranked-ranking.result.rank (f.rises (omega arith))
+    looped-done c.args.form _ _ _ _ f.found c.if-knotted.false _ c.room_of-room.ensures _ c.alone-2.ensures.1 c.requires c.ranked-ranking.result.rank (f.rises (omega arith))
     (sym c.is_fine.ensures ∙ c.if-not-is_fine.false) c.alone-2.ensures.0 _ c.sorted-order.ensures.1 _ c.iterate_all.ensures

@@ -13,18 +13,18 @@ use Rattle.rotation.proofs.first_plan.Goals as goal
 pub knot_of-knot-requires : goal.knot_of-knot-requires
 knot_of-knot-requires c = lent-ends c.requires.0 _ _ _ _ _ c.requires.1.lent
 
-pub returns-then-knot-gt0 : goal.returns-then-knot-gt0
-returns-then-knot-gt0 c f k =
+pub returns-then-knotted : goal.returns-then-knotted
+returns-then-knotted c f k =
     subst (Planned first_asked first_form unturned f) (sym c.uncounted.ensures)
-    (first-knot f _ (c.knot_of-knot.ensures _ k.lent.told) (omega (arith, c.if-knot-gt0.true)) _)
+    (first-knot f _ (c.knot_of-knot.ensures _ k.lent.told) (omega (arith, c.if-knotted.true)) _)
 
 pub first_times-first-requires : goal.first_times-first-requires
 first_times-first-requires c =
-    (c.requires.0, record { tabled = c.requires.1; free = (c.knot_of-knot.ensures _ c.requires.1.lent.told).free (omega (arith, c.if-knot-gt0.false)) })
+    (c.requires.0, record { tabled = c.requires.1; free = (c.knot_of-knot.ensures _ c.requires.1.lent.told).free (omega (arith, c.if-knotted.false)) })
 
 pub returns : goal.returns
 returns c f k =
     let found = c.knot_of-knot.ensures _ k.lent.told in
-    let none : c.knot_of-knot.result.count ≤ 0 = omega (arith, c.if-knot-gt0.false) in
+    let none : c.knot_of-knot.result.count ≤ 0 = omega (arith, c.if-knotted.false) in
     subst (Planned first_asked first_form unturned f) (sym c.uncounted-2.ensures)
     (first-planned f _ found k.lent.good none _ (c.first_times-first.ensures f (record { tabled = k; free = found.free (omega (arith, none)) })))

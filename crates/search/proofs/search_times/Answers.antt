@@ -28,7 +28,7 @@ loop-rotations-preserved c f b =
     let g = c.loop-rotations.invariant f b in
     let turns = going-turnable f _ _ _ _ _ _ g _ c.halve-steps.ensures (λ e. omega (arith, e, c.if-steps-eq0.false)) _ _ _ _ _ b in
     going-turn f _ _ _ _ _ _ g _ c.halve-steps.ensures _ (c.rotate_times-turned.ensures g.at_hand turns) (λ e. omega (arith, e, c.if-steps-eq0.false))
-    (omega (arith, c.if-turned-gt512.false)) (omega (arith, c.loop-rotations-test.true)) _ c.shorter_of-best.ensures _ (omega arith)
+    (omega (arith, c.if-long.false)) (omega (arith, c.loop-rotations-test.true)) _ c.shorter_of-best.ensures _ (omega arith)
 
 pub returns-after-loop-rotations : goal.returns-after-loop-rotations
 returns-after-loop-rotations c f k =
@@ -40,9 +40,9 @@ returns-then-steps-eq0 c f k =
     let b = begun_first f _ _ _ _ _ k _ (c.first_times-now.ensures f k) in
     going-zero f _ _ _ _ _ _ (c.loop-rotations.invariant f b) _ c.halve-steps.ensures (omega (arith, c.loop-rotations-test.true)) (omega (arith, c.if-steps-eq0.true))
 
-pub returns-then-turned-gt512 : goal.returns-then-turned-gt512
-returns-then-turned-gt512 c f k =
+pub returns-then-long : goal.returns-then-long
+returns-then-long c f k =
     let b = begun_first f _ _ _ _ _ k _ (c.first_times-now.ensures f k) in
     let g = c.loop-rotations.invariant f b in
     let turns = going-turnable f _ _ _ _ _ _ g _ c.halve-steps.ensures (λ e. omega (arith, e, c.if-steps-eq0.false)) _ _ _ _ _ b in
-    going-long f _ _ _ _ _ _ g _ c.halve-steps.ensures _ (c.rotate_times-turned.ensures g.at_hand turns) (omega (arith, c.loop-rotations-test.true)) (omega (arith, c.if-turned-gt512.true))
+    going-long f _ _ _ _ _ _ g _ c.halve-steps.ensures _ (c.rotate_times-turned.ensures g.at_hand turns) (omega (arith, c.loop-rotations-test.true)) (omega (arith, c.if-long.true))

@@ -5,9 +5,9 @@ use borrow.Author.Rules.{rules}
 use Rattle.text.proofs.Laws.{retiming-none, retiming-some}
 use Rattle.text.proofs.put_retiming.Goals as goal
 
-pub returns-then-retiming-eq0 : goal.returns-then-retiming-eq0
-returns-then-retiming-eq0 c = (search rules, retiming-none _ _ _ (omega (arith, c.if-retiming-eq0.true)))
+pub returns-then-none : goal.returns-then-none
+returns-then-none c = (search rules, retiming-none _ _ _ (omega (arith, c.if-none.true)))
 
 pub returns : goal.returns
 returns c =
-    (search rules, retiming-some _ _ _ _ _ _ _ _ (λ e. omega (arith, e, c.if-retiming-eq0.false)) c.put_byte-past.ensures.1 c.put_number.ensures.1 (omega arith))
+    (search rules, retiming-some _ _ _ _ _ _ _ _ (λ e. omega (arith, e, c.if-none.false)) c.put_byte-past.ensures.1 c.put_number.ensures.1 (omega arith))

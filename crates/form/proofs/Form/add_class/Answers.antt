@@ -6,10 +6,10 @@ use Rattle.lists.specs.Pick.{pick}
 use Rattle.form.specs.Adding.{added_to, class_added}
 use Rattle.form.proofs.Form.add_class.Goals as goal
 
-pub returns-then-classes-ge4 : goal.returns-then-classes-ge4
+pub returns-then-full : goal.returns-then-full
 unfolding class_added added_to pick
-returns-then-classes-ge4 c = simp (le-ltb c.args.self.header.classes 4 (omega (arith, c.if-classes-ge4.true)))
+returns-then-full c = simp (le-ltb c.args.self.header.classes 4 (omega (arith, c.if-full.true)))
 
 pub returns : goal.returns
 unfolding class_added added_to pick
-returns c = simp (lt-ltb c.args.self.header.classes 4 (omega (arith, c.if-classes-ge4.false)))
+returns c = simp (lt-ltb c.args.self.header.classes 4 (omega (arith, c.if-full.false)))

@@ -6,10 +6,10 @@ use Rattle.lists.specs.Pick.{pick}
 use Rattle.form.specs.Adding.{added_to, edge_added}
 use Rattle.form.proofs.Form.add_edge.Goals as goal
 
-pub returns-then-edges-ge256 : goal.returns-then-edges-ge256
+pub returns-then-full : goal.returns-then-full
 unfolding edge_added added_to pick
-returns-then-edges-ge256 c = simp (le-ltb c.args.self.header.edges 256 (omega (arith, c.if-edges-ge256.true)))
+returns-then-full c = simp (le-ltb c.args.self.header.edges 256 (omega (arith, c.if-full.true)))
 
 pub returns : goal.returns
 unfolding edge_added added_to pick
-returns c = simp (lt-ltb c.args.self.header.edges 256 (omega (arith, c.if-edges-ge256.false)))
+returns c = simp (lt-ltb c.args.self.header.edges 256 (omega (arith, c.if-full.false)))

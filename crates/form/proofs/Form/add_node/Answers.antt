@@ -6,10 +6,10 @@ use Rattle.lists.specs.Pick.{pick}
 use Rattle.form.specs.Adding.{added_to, node_added}
 use Rattle.form.proofs.Form.add_node.Goals as goal
 
-pub returns-then-nodes-ge64 : goal.returns-then-nodes-ge64
+pub returns-then-full : goal.returns-then-full
 unfolding node_added added_to pick
-returns-then-nodes-ge64 c = simp (le-ltb c.args.self.header.nodes 64 (omega (arith, c.if-nodes-ge64.true)))
+returns-then-full c = simp (le-ltb c.args.self.header.nodes 64 (omega (arith, c.if-full.true)))
 
 pub returns : goal.returns
 unfolding node_added added_to pick
-returns c = simp (lt-ltb c.args.self.header.nodes 64 (omega (arith, c.if-nodes-ge64.false)))
+returns c = simp (lt-ltb c.args.self.header.nodes 64 (omega (arith, c.if-full.false)))
