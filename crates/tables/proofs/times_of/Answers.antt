@@ -16,9 +16,6 @@ class-below : (c : In-loop-v) → (node_of c.args.form c.loop-v.v).class < 4
 class-below c =
     omega (arith, c.requires.node c.loop-v.v (omega arith), c.requires.classes)
 
--- ?? overflow-cast-row
--- cast-row c = omega (arith, class-below c)
-
 pub offset_bounds-class-number : goal.offset_bounds-class-number
 offset_bounds-class-number c = omega (arith, class-below (goal.at.offset_bounds-class-number c).In-loop-v)
 
