@@ -10,7 +10,7 @@ import re
 import sys
 
 HEAD = re.compile(r'^( *)pub (?:extern "C" )?fn (\w+)', re.M)
-IMPL = re.compile(r"^impl (\w+)", re.M)
+IMPL = re.compile(r"^impl(?:<[^>]*>)? (\w+)", re.M)
 # what stands before a clause's brace; one of several clauses has a name
 CLAUSE = r"\b%s\*?(?: +\w+)?\s*"
 

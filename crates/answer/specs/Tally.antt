@@ -11,7 +11,7 @@ use Rattle.lists.specs.Place.{zeros-at}
 use Rattle.lists.specs.Mapped.{mapped_at}
 use Rattle.lists.specs.Span.{span, span-length}
 use Rattle.answer.specs.Outcome.{no_cycle, edges_of, cycle_edge, cycle_list, outcome_list, told_list}
-use Rattle.answer.specs.declared.Refusal.{Refusal}
+use Rattle.answer.specs.Refused.{Verdict}
 use Rattle.answer.specs.declared.Details.{Details}
 use Rattle.answer.specs.declared.Cycle.{Cycle}
 
@@ -53,13 +53,13 @@ module _ (c : Cycle) (t : Tallies c) where
       ∙ sym (get_or-take c.count c.edges i 0 l)
 
   -- the list tells the edges of the cycle, all of them and no others
-  pub told-edges : (r : Refusal) (told : Details) → told_cycle (told_list r told c) ≡ edges_of c
+  pub told-edges : (r : Verdict) (told : Details) → told_cycle (told_list r told c) ≡ edges_of c
   unfolding told_list outcome_list
   told-edges r told =
       ext_get_or 0 (take c.count (cycle_list c)) (edges_of c) (listed-length ∙ sym t.counts) (λ i l. listed_at i (omega (arith, listed-length)))
 
   -- and place 4 is their number
-  pub told-count : (r : Refusal) (told : Details) → get_or (told_list r told c) 4 0 ≡ length (edges_of c)
+  pub told-count : (r : Verdict) (told : Details) → get_or (told_list r told c) 4 0 ≡ length (edges_of c)
   unfolding told_list outcome_list
   told-count r told = sym t.counts
 

@@ -1,17 +1,16 @@
 // What comes back: the refusals of the scope's table, their numbers and details, and cycles.
 #![tactic(auto)]
 
-ghost use Rattle.std.specs.Prelude.{◌≡◌, ltb};
+ghost use Rattle.std.specs.Prelude.{◌≡◌, ltb, None, Some};
 ghost use Rattle.std.proofs.lemmas.List.Edits.{sets};
 ghost use Rattle.lists.specs.Pick.{pick};
-ghost use Rattle.answer.specs.Refused.{number_of, details_of, fine, details};
-ghost use Rattle.answer.specs.Outcome.{no_cycle, told_of, cycle_list, told_list, answer_list};
+ghost use Rattle.answer.specs.Refused.{Verdict, number_of, details_of, details};
+ghost use Rattle.answer.specs.Outcome.{no_cycle, cycle_or, cycle_list, told_list, answer_list};
+ghost use Rattle.answer.specs.declared.Details.{Details};
 
-// Every refusal, in the table's order, with its details in the table's order. `None`: it answers.
-// A cycle that proves a refusal stands beside it, in a `Cycle`.
+// Every refusal, in the table's order, with its details in the table's order.
 #[derive(Clone, Copy)]
 pub enum Refusal {
-    None,
     Short(u32),
     Mark(u32),
     Version(u32),
@@ -34,6 +33,13 @@ pub enum Refusal {
     Busy(u32, u32, u32),
 }
 
+// A refusal, and the cycle that proves it where one does.
+#[derive(Clone, Copy)]
+pub struct Refused {
+    pub refusal: Refusal,
+    pub cycle: Option<Cycle>,
+}
+
 // A refusal's details, or an answer's numbers; 0 where there are fewer.
 #[derive(Clone, Copy)]
 pub struct Details {
@@ -50,12 +56,11 @@ pub struct Cycle {
 }
 
 impl Refusal {
-    // Its number in the table, 0 for `None`.
+    // Its number in the table.
     pub fn number(self) -> u32
-        ensures { result ≡ number_of self }
+        ensures { result ≡ number_of (Some self) }
     {
         match self {
-            Refusal::None => 0,
             Refusal::Short(_) => 1,
             Refusal::Mark(_) => 2,
             Refusal::Version(_) => 3,
@@ -81,38 +86,40 @@ impl Refusal {
 
     // Its details in the table's order.
     pub fn details(self) -> Details
-        ensures { result ≡ details_of self }
+        ensures { result ≡ details_of (Some self) }
     {
+        let none = numbers_of(0, 0, 0);
         match self {
-            Refusal::None => numbers_of(0, 0, 0),
-            Refusal::Short(a) => numbers_of(a, 0, 0),
-            Refusal::Mark(a) => numbers_of(a, 0, 0),
-            Refusal::Version(a) => numbers_of(a, 0, 0),
-            Refusal::Count(a) => numbers_of(a, 0, 0),
-            Refusal::Machine(a) => numbers_of(a, 0, 0),
-            Refusal::Node(a) => numbers_of(a, 0, 0),
-            Refusal::Edge(a) => numbers_of(a, 0, 0),
-            Refusal::Start(a) => numbers_of(a, 0, 0),
-            Refusal::Retiming(a) => numbers_of(a, 0, 0),
-            Refusal::Tail(a) => numbers_of(a, 0, 0),
-            Refusal::Bare => numbers_of(0, 0, 0),
-            Refusal::Knot => numbers_of(0, 0, 0),
-            Refusal::Dependence(a) => numbers_of(a, 0, 0),
-            Refusal::NoRetiming => numbers_of(0, 0, 0),
+            Refusal::Short(a)
+            | Refusal::Mark(a)
+            | Refusal::Version(a)
+            | Refusal::Count(a)
+            | Refusal::Machine(a)
+            | Refusal::Node(a)
+            | Refusal::Edge(a)
+            | Refusal::Start(a)
+            | Refusal::Retiming(a)
+            | Refusal::Tail(a)
+            | Refusal::Dependence(a)
+            | Refusal::Size(a)
+            | Refusal::Room(a) => numbers_of(a, 0, 0),
+            Refusal::Bare | Refusal::Knot | Refusal::NoRetiming | Refusal::Long => none,
             Refusal::Units(a, b) => numbers_of(a, b, 0),
-            Refusal::Size(a) => numbers_of(a, 0, 0),
-            Refusal::Long => numbers_of(0, 0, 0),
-            Refusal::Room(a) => numbers_of(a, 0, 0),
             Refusal::Early(a, b, c) => numbers_of(a, b, c),
             Refusal::Busy(a, b, c) => numbers_of(a, b, c),
         }
     }
+}
 
-    // Whether nothing is refused.
-    pub fn is_fine(self) -> bool
-        ensures { result ≡ fine self }
-    {
-        self.number() == 0
+// A refusal that no cycle stands beside.
+impl From<Refusal> for Refused {
+    ghost from_gives = { λ r e. e ≡ record { refusal = r; cycle = None } };
+
+    fn from(refusal: Refusal) -> Refused {
+        Refused {
+            refusal,
+            cycle: None,
+        }
     }
 }
 
@@ -139,17 +146,6 @@ pub fn numbers_of(first: u32, second: u32, third: u32) -> Details
     }
 }
 
-// A refusal's details; where nothing is refused, the answer's numbers.
-fn told_of(refusal: Refusal, numbers: Details) -> Details
-    ensures { result ≡ told_of refusal numbers }
-{
-    let details = refusal.details();
-    if refusal.is_fine() {
-        return numbers;
-    }
-    details
-}
-
 // What stands at a place of a cycle: its edge there, 0 past its count.
 fn edge_within(edge: u16, place: usize, count: u8) -> u32
     ensures { result ≡ pick (ltb place count) edge 0 }
@@ -164,40 +160,41 @@ fn edge_within(edge: u16, place: usize, count: u8) -> u32
 fn fill_cycle(answer: &mut [u32; 69], cycle: Cycle)
     ensures { answer.new ≡ sets answer.old 5 (cycle_list cycle) }
 {
-    let mut i: usize = 0;
-    while i < 64 {
+    for i in 0..64usize {
         answer[5 + i] = edge_within(cycle.edges[i], i, cycle.count);
-        i += 1;
     }
 }
 
-// What is told beside a refusal's number, and a cycle, as others link it, in every place; the number comes back as well.
-fn tell(answer: &mut [u32; 69], refusal: Refusal, told: Details, cycle: Cycle) -> u32
-    ensures { (result ≡ number_of refusal) × (answer.new ≡ told_list refusal told cycle) }
+// A number, what is told beside it, and a cycle, as others link them, in every place.
+fn lay(answer: &mut [u32; 69], number: u32, told: Details, cycle: Option<Cycle>)
+    ensures { (r : Verdict) → number ≡ number_of r → answer.new ≡ told_list r told (cycle_or cycle) }
 {
-    let number = refusal.number();
+    let handed = cycle.unwrap_or(Cycle::none());
     // what stood there does not matter
     *answer = [0; 69];
     answer[0] = number;
     answer[1] = told.first;
     answer[2] = told.second;
     answer[3] = told.third;
-    answer[4] = cycle.count as u32;
-    fill_cycle(answer, cycle);
+    answer[4] = handed.count as u32;
+    fill_cycle(answer, handed);
+}
+
+// An answer that refuses nothing, as others link it: 0, its numbers, and a cycle if one is handed over.
+pub fn tell(answer: &mut [u32; 69], numbers: Details, cycle: Option<Cycle>) -> u32
+    ensures { (result ≡ number_of None) × (answer.new ≡ answer_list None numbers (cycle_or cycle)) }
+{
+    let number: u32 = 0;
+    lay(answer, number, numbers, cycle);
     number
 }
 
-// An answer as others link it: its numbers where nothing is refused, else the refusal's details.
-pub fn fill(
-    answer: &mut [u32; 69],
-    refusal: Refusal,
-    first: u32,
-    second: u32,
-    third: u32,
-    cycle: Cycle,
-) -> u32
-    ensures { (result ≡ number_of refusal) × (answer.new ≡ answer_list refusal (details first second third) cycle) }
+// A refusal as others link it: its number, its details, and the cycle that proves it.
+pub fn refuse(answer: &mut [u32; 69], refused: Refused) -> u32
+    ensures number { result ≡ number_of (Some refused.refusal) }
+    ensures all { (numbers : Details) → answer.new ≡ answer_list (Some refused.refusal) numbers (cycle_or refused.cycle) }
 {
-    let told = told_of(refusal, numbers_of(first, second, third));
-    tell(answer, refusal, told, cycle)
+    let number = refused.refusal.number();
+    lay(answer, number, refused.refusal.details(), refused.cycle);
+    number
 }

@@ -7,12 +7,15 @@
 // and each further place the seed more, modulo 2^32.
 #![tactic(auto)]
 
-ghost use Rattle.std.specs.Prelude.{◌≡◌, length};
+ghost use Rattle.std.specs.Prelude.{◌≡◌, ◌<◌, length};
 
 use std::io;
 
-fn two(low: u8, high: u8) -> u16 {
-    low as u16 + 256 * high as u16
+// The number at a place of a request's head.
+fn two(head: &[u8; 14], at: usize) -> u16
+    requires { at < 13 }
+{
+    u16::from_le_bytes([head[at], head[at + 1]])
 }
 
 fn print_number(rt: &impl Print, number: u32) -> io::Result<()> {
@@ -21,13 +24,9 @@ fn print_number(rt: &impl Print, number: u32) -> io::Result<()> {
 
 // The number, the details, the count, and the cycle's edges.
 fn print_answer(rt: &impl Print, answer: &[u32; 69]) -> io::Result<()> {
-    let count = answer[4];
-    for i in 0..69usize {
-        if i < 5 {
-            print_number(rt, answer[i])?;
-        } else if i as u32 - 5 < count {
-            print_number(rt, answer[i])?;
-        }
+    let count = answer[4] as usize;
+    for number in answer.iter().take(5 + count) {
+        print_number(rt, *number)?;
     }
     Ok(())
 }
@@ -43,34 +42,26 @@ fn print_bytes(rt: &impl Print, bytes: &[u8]) -> io::Result<()> {
     Ok(())
 }
 
-// A rotation's size, or a search's count and size, are the first numbers.
-fn ask(what: u8, first: u16, second: u16, record: &[u8], out: &mut [u8], answer: &mut [u32; 69]) {
+// A rotation's size, or a search's count and size, are the first numbers. What is refused.
+// One arm for one export: C names no function by a value.
+fn ask(
+    what: u8,
+    first: u16,
+    second: u16,
+    record: &[u8],
+    out: &mut [u8],
+    answer: &mut [u32; 69],
+) -> u32 {
     match what {
-        0 => {
-            rsk_c::rsk_rewrite(record, out, answer);
-        }
-        1 => {
-            rsk_c::rsk_judge(record, answer);
-        }
-        2 => {
-            rsk_c::rsk_fit(record, out, answer);
-        }
-        3 => {
-            rsk_c::rsk_floor(record, answer);
-        }
-        4 => {
-            rsk_c::rsk_list(record, out, answer);
-        }
-        5 => {
-            rsk_c::rsk_first(record, out, answer);
-        }
-        6 => {
-            rsk_c::rsk_rotate(record, first, out, answer);
-        }
-        7 => {
-            rsk_c::rsk_search(record, first, second, out, answer);
-        }
-        _ => {}
+        0 => rsk_c::rsk_rewrite(record, out, answer),
+        1 => rsk_c::rsk_judge(record, answer),
+        2 => rsk_c::rsk_fit(record, out, answer),
+        3 => rsk_c::rsk_floor(record, answer),
+        4 => rsk_c::rsk_list(record, out, answer),
+        5 => rsk_c::rsk_first(record, out, answer),
+        6 => rsk_c::rsk_rotate(record, first, out, answer),
+        7 => rsk_c::rsk_search(record, first, second, out, answer),
+        _ => 0,
     }
 }
 
@@ -104,9 +95,9 @@ fn marked() -> [u8; 8192]
 
 // A request that lends bytes; whether there is that room.
 fn lend_bytes(rt: &impl Print, head: &[u8; 14], record: &[u8]) -> io::Result<bool> {
-    let first = two(head[2], head[3]);
-    let second = two(head[4], head[5]);
-    let room = two(head[10], head[11]) as usize;
+    let first = two(head, 2);
+    let second = two(head, 4);
+    let room = two(head, 10) as usize;
     if 8192 < room {
         return Ok(false);
     }
@@ -132,31 +123,19 @@ fn print_each(rt: &impl Print, words: &[u32]) -> io::Result<()> {
 }
 
 fn checksum(words: &[u32]) -> u32 {
-    let mut sum: u32 = 0;
-    for word in words {
-        sum = mixed(sum, *word);
-    }
-    sum
-}
-
-fn mixed(sum: u32, word: u32) -> u32 {
-    ((sum as u64 * 31 + word as u64) % 4294967296) as u32
-}
-
-fn more(word: u32, seed: u16) -> u32 {
-    ((word as u64 + seed as u64) % 4294967296) as u32
+    words.iter().fold(0, |sum: u32, word| sum.wrapping_mul(31).wrapping_add(*word))
 }
 
 // The word at place 0 with which place 31 is 7.
 fn beginning(seed: u16) -> u32 {
-    ((4294967303 - 31 * seed as u64) % 4294967296) as u32
+    7u32.wrapping_sub(31 * u32::from(seed))
 }
 
 fn fill(seed: u16, starts: &mut [u32]) {
     let mut word = beginning(seed);
     for start in starts.iter_mut() {
         *start = word;
-        word = more(word, seed);
+        word = word.wrapping_add(u32::from(seed));
     }
 }
 
@@ -208,9 +187,9 @@ fn lend_values<'a>(
     record: &'a [u8],
     starts: &'a [u32],
 ) -> io::Result<()> {
-    let k = two(head[2], head[3]);
-    let finishes = two(head[8], head[9]) as usize;
-    let room = two(head[10], head[11]) as usize;
+    let k = two(head, 2);
+    let finishes = two(head, 8) as usize;
+    let room = two(head, 10) as usize;
     let mut values = marked_words();
     if head[0] == 8 {
         let mut finish = marked_words();
@@ -229,8 +208,8 @@ fn lend_values<'a>(
 
 // A request that lends words; whether there is that room.
 fn lend_words(rt: &impl Print, head: &[u8; 14], record: &[u8]) -> io::Result<bool> {
-    let seed = two(head[4], head[5]);
-    let places = two(head[6], head[7]) as usize;
+    let seed = two(head, 4);
+    let places = two(head, 6) as usize;
     if 960 < places {
         return Ok(false);
     }
@@ -253,11 +232,8 @@ fn one(rt: &HostRuntime) -> io::Result<bool> {
     let mut input = rt.stdin();
     let mut head = [0u8; 14];
     let got = streams::read_full(&mut input, &mut head)?;
-    let length = two(head[12], head[13]) as usize;
-    if got < 14 {
-        return Ok(false);
-    }
-    if 2048 < length {
+    let length = two(&head, 12) as usize;
+    if got < 14 || 2048 < length {
         return Ok(false);
     }
     let mut bytes = empty();

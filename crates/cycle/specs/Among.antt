@@ -1,7 +1,7 @@
 -- Tables of edges among m nodes, read as a system of n nodes: its walks are the same.
 -- So rows of 64 places serve every number of nodes up to 64.
 -- Assumes nothing.
-use Rattle.std.specs.Prelude.{refl, ℕ, ◌≤◌, ◌<◌, length, take}
+use Rattle.std.specs.Prelude.{refl, ℕ, ◌+◌, ◌≤◌, ◌<◌, length, take}
 use mathlib.Core.List.{List, [], ◌∷◌}
 use Rattle.std.proofs.Math.ListN.{length-take}
 use native.Mathlib.Omega.{arith}
@@ -12,7 +12,7 @@ use Rattle.system.specs.System.{System, system_of, gains, costs, LosingWalk}
 use Rattle.cycle.specs.Fewest.{losing-from, losing-within, fewest-is-cycle}
 use Rattle.answer.specs.Outcome.{no_cycle}
 use Rattle.answer.specs.Tally.{none-tallies}
-use Rattle.cycle.specs.Found.{Tables, BestStart, ClosedWalk, FoundCycle}
+use Rattle.cycle.specs.Found.{Tables, NoneAmong, ClosedWalk, FoundCycle}
 
 module _ (e : ℕ) (ts hs gs cs : List ℕ) where
   abbrev among : ℕ → System
@@ -34,11 +34,11 @@ module _ (e : ℕ) (ts hs gs cs : List ℕ) where
   unfolding system_of gains costs
   losing-among m n es w = record { from = w.from; closed = walk-among m n w.from es w.from w.closed; loss = w.loss }
 
-  -- a start found among m nodes for the first n nodes, which hold every edge
-  module _ (m n node count : ℕ) (j : Joined (among n).graph) (b : BestStart (among m) n n node count) where
-    no-fewer : (fs : List ℕ) → LosingWalk (among n) fs → count ≤ length fs
+  module _ (m n : ℕ) (j : Joined (among n).graph) where
+    -- what no closed walk among m nodes that begins at the first n does, none among the n nodes does
+    no-fewer : (count : ℕ) → NoneAmong (among m) n count → (fs : List ℕ) → LosingWalk (among n) fs → count ≤ length fs
     unfolding system_of gains costs
-    no-fewer fs w =
+    no-fewer count none fs w =
         elim (dec_le count (length fs)) [
           | yes h ↦ h
           | no h ↦
@@ -46,26 +46,27 @@ module _ (e : ℕ) (ts hs gs cs : List ℕ) where
               (omega (
                 arith,
                 w.loss,
-                b.fewer w.from (losing-from (among n) j fs w) fs (walk-among n m w.from fs w.from w.closed) (omega arith),
+                none w.from (losing-from (among n) j fs w) fs (walk-among n m w.from fs w.from w.closed) (omega arith),
               ))
         ]
 
-    pub none_found : n < count → FoundCycle (among n) no_cycle
+    -- the first n nodes hold every edge
+    pub none_found : NoneAmong (among m) n (n + 1) → FoundCycle (among n) no_cycle
     unfolding system_of
-    none_found l = record {
-      none = λ q es w. let t = losing-within (among n) j es w in omega (arith, t.few, no-fewer t.walk t.losing);
+    none_found none = record {
+      none = λ q es w. let t = losing-within (among n) j es w in omega (arith, t.few, no-fewer (n + 1) none t.walk t.losing);
       some = λ q. absurd (omega arith);
       few = omega arith;
       tallies = none-tallies no_cycle refl;
     }
 
-    pub cycle-found : count ≤ n → (r : Cycle) → ClosedWalk (among m) count r → FoundCycle (among n) r
+    pub cycle-found : (count : ℕ) → NoneAmong (among m) n count → 0 < count → count ≤ n → (r : Cycle) → ClosedWalk (among m) count r → FoundCycle (among n) r
     unfolding system_of
-    cycle-found l r c = record {
-      none = λ z. absurd (omega (arith, b.some, c.size));
+    cycle-found count none some within r c = record {
+      none = λ z. absurd (omega (arith, some, c.size));
       some = λ q.
           rw c.size
-          (fewest-is-cycle (among n) (take count r.edges) (losing-among m n (take count r.edges) c.losing) (λ fs w. omega (arith, no-fewer fs w, length-take count r.edges)));
+          (fewest-is-cycle (among n) (take count r.edges) (losing-among m n (take count r.edges) c.losing) (λ fs w. omega (arith, no-fewer count none fs w, length-take count r.edges)));
       few = omega (arith, c.size);
       tallies = c.tallies;
     }

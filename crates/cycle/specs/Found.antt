@@ -1,7 +1,7 @@
 -- What the search for a losing cycle with the fewest edges answers, and what its parts do.
 -- Assumes nothing.
-use Rattle.std.specs.Prelude.{◌≡◌, List, [], ◌∷◌, ℕ, ◌+◌, ◌≤◌, ◌<◌, get_or, take, length}
-use Rattle.std.proofs.Common.{arith, below_none, below_more}
+use Rattle.std.specs.Prelude.{◌≡◌, refl, Option, Some, None, MatchOption, List, [], ◌∷◌, ℕ, ◌+◌, ◌≤◌, ◌<◌, get_or, take, length}
+use Rattle.std.proofs.Common.{sym, subst, arith, below_none, below_more}
 use Rattle.std.proofs.Math.Decide.{dec_lt}
 use Rattle.lists.specs.Fold.{sum_of}
 use Rattle.answer.specs.declared.Cycle.{Cycle}
@@ -10,6 +10,8 @@ use Rattle.answer.specs.Tally.{Tallies}
 use Rattle.system.specs.Graph.{Walk, Joined}
 use Rattle.system.specs.System.{System, system_of, gains, costs, LosingWalk, FewestEdges}
 use Rattle.cycle.specs.Row.{base, Worth, Row, Gives}
+use Rattle.system.specs.declared.Constraints.{Constraints}
+use Rattle.cycle.specs.declared.Start.{Start}
 
 -- the system that tables hold, read as one of 64 nodes: a row has a place for each
 abbrev pub wide : ℕ → List ℕ → List ℕ → List ℕ → List ℕ → System
@@ -20,30 +22,64 @@ pub record Tables (e : ℕ) (tails heads gs cs : List ℕ) : Type 0 where
   pub few : e ≤ 256
   pub joined : Joined (wide e tails heads gs cs).graph
 
+-- the same of tables that are lent together
+abbrev pub wide_in : Constraints → System
+wide_in c = wide c.edges c.tails.now c.heads.now c.gains.now c.costs.now
+
+abbrev pub TablesIn : Constraints → Type 0
+TablesIn c = Tables c.edges c.tails.now c.heads.now c.gains.now c.costs.now
+
 -- no closed walk of fewer than n edges through the node loses
 abbrev pub NoneBelow : System → ℕ → ℕ → Type 0
 NoneBelow s node n = (es : List ℕ) → Walk s.graph node es node → length es < n → costs s es ≤ gains s es
 
--- the fewest edges of a losing closed walk through the node, where they are below the limit, else the limit
-pub record FewestAt (s : System) (node limit r : ℕ) : Type 0 where
-  pub some : 0 < r
-  pub within : r ≤ limit
-  pub fewer : NoneBelow s node r
-  pub found : r < limit → Worth s node r node (base + 1)
+-- the shortest losing closed walk through the node has k edges, which is below the limit
+pub record Fewest (s : System) (node limit k : ℕ) : Type 0 where
+  pub some : 0 < k
+  pub within : k < limit
+  pub fewer : NoneBelow s node k
+  pub found : Worth s node k node (base + 1)
 
--- of the nodes below `seen` one with the fewest, where they are at most n, else a count of n + 1
-pub record BestStart (s : System) (n seen node count : ℕ) : Type 0 where
-  pub some : 0 < count
-  pub within : count ≤ n + 1
-  pub fewer : (v : ℕ) → v < seen → NoneBelow s v count
-  pub inside : count ≤ n → node < seen
-  pub found : count ≤ n → Worth s node count node (base + 1)
+-- its number of edges, if one has fewer than the limit
+abbrev pub FewestAt : System → ℕ → ℕ → Option ℕ → Type 0
+FewestAt s node limit r = MatchOption r (NoneBelow s node limit) (Fewest s node limit)
 
--- the first edge out of the node that gives the value, or the number of edges
-pub record NextEdge (s : System) (row : List ℕ) (node value r : ℕ) : Type 0 where
-  pub within : r ≤ s.graph.edges
-  pub first : (e : ℕ) → e < r → s.graph.tail e ≡ node → Gives s row e value → ⊥
-  pub found : r < s.graph.edges → (s.graph.tail r ≡ node) × Gives s row r value × (value ≤ get_or row (s.graph.head r) 0 + 65535)
+-- no closed walk of fewer than `limit` edges through a node below `seen` loses
+abbrev pub NoneAmong : System → ℕ → ℕ → Type 0
+NoneAmong s seen limit = (v : ℕ) → v < seen → NoneBelow s v limit
+
+-- a losing closed walk of `limit` edges, at most n, begins at a node below `seen`
+pub record Begins (s : System) (n seen limit : ℕ) (start : Start) : Type 0 where
+  pub size : start.count ≡ limit
+  pub some : 0 < start.count
+  pub within : start.count ≤ n
+  pub inside : start.node < seen
+  pub found : Worth s start.node start.count start.node (base + 1)
+
+-- the best start of the nodes below `seen`, and the number of edges that one more must stay below
+pub record BestSoFar (s : System) (n seen limit : ℕ) (best : Option Start) : Type 0 where
+  pub fewer : NoneAmong s seen limit
+  pub start : MatchOption best (limit ≡ n + 1) (Begins s n seen limit)
+
+-- of n nodes one with the fewest edges, if a closed walk of at most n edges loses
+abbrev pub BestStart : System → ℕ → Option Start → Type 0
+BestStart s n best = MatchOption best (NoneAmong s n (n + 1)) (λ start. NoneAmong s n start.count × Begins s n n start.count start)
+
+-- the edge does not both leave the node and give the value
+abbrev pub Left : System → List ℕ → ℕ → ℕ → ℕ → Type 0
+Left s row node value e = s.graph.tail e ≡ node → Gives s row e value → ⊥
+
+-- the edge r is the first that does
+pub record KeepsValue (s : System) (row : List ℕ) (node value r : ℕ) : Type 0 where
+  pub within : r < s.graph.edges
+  pub first : (e : ℕ) → e < r → Left s row node value e
+  pub out : s.graph.tail r ≡ node
+  pub given : Gives s row r value
+  pub near : value ≤ get_or row (s.graph.head r) 0 + 65535
+
+-- the first such edge, if there is one
+abbrev pub NextEdge : System → List ℕ → ℕ → ℕ → Option ℕ → Type 0
+NextEdge s row node value r = MatchOption r ((e : ℕ) → e < s.graph.edges → Left s row node value e) (KeepsValue s row node value)
 
 -- a closed walk of so many edges that loses
 pub record ClosedWalk (s : System) (count : ℕ) (r : Cycle) : Type 0 where
@@ -78,34 +114,30 @@ module _ (s : System) (node k : ℕ) (row : List ℕ) (r : Row s node k row) whe
       let w = r.worth node (omega arith) in
       record { path = w.path; walk = w.walk; size = w.size; enough = omega (arith, w.enough) }
 
-pub best_none : (s : System) (n node : ℕ) → BestStart s n 0 node (n + 1)
-best_none s n node = record {
-  some = omega arith;
-  within = omega arith;
-  fewer = below_none _;
-  inside = λ l. absurd (omega arith);
-  found = λ l. absurd (omega arith);
-}
+pub best_none : (s : System) (n limit : ℕ) → limit ≡ n + 1 → BestSoFar s n 0 limit None
+best_none s n limit e = record { fewer = below_none _; start = e }
 
 -- one node more, the node i: better than the best so far, or not
-module _ (s : System) (n i node count r : ℕ) (b : BestStart s n i node count) (f : FewestAt s i count r) where
-  all-below : (v : ℕ) → v < i + 1 → NoneBelow s v r
-  all-below = below_more (λ v. NoneBelow s v r) i (λ v l es w q. b.fewer v l es w (omega (arith, f.within))) f.fewer
+module _ (s : System) (n i limit : ℕ) (best : Option Start) (b : BestSoFar s n i limit best) where
+  among-more : (m : ℕ) → m ≤ limit → NoneBelow s i m → NoneAmong s (i + 1) m
+  among-more m l here =
+      below_more (λ v. NoneBelow s v m) i (λ v q es w h. b.fewer v q es w (omega arith)) here
 
-  pub best-better : r < count → BestStart s n (i + 1) i r
-  best-better l = record {
-    some = f.some;
-    within = omega (arith, b.within);
-    fewer = all-below;
-    inside = λ q. omega arith;
-    found = λ q. f.found l;
+  pub best-better : limit ≤ n + 1 → (k : ℕ) → Fewest s i limit k → BestSoFar s n (i + 1) k (Some (record { node = i; count = k }))
+  best-better l k f = record {
+    fewer = among-more k (omega (arith, f.within)) f.fewer;
+    start = record { size = refl; some = f.some; within = omega (arith, f.within); inside = omega arith; found = f.found };
   }
 
-  pub best-kept : count ≤ r → BestStart s n (i + 1) node count
-  best-kept l = record {
-    some = b.some;
-    within = b.within;
-    fewer = λ v q es w h. all-below v q es w (omega arith);
-    inside = λ q. omega (arith, b.inside q);
-    found = b.found;
-  }
+  pub best-kept : NoneBelow s i limit → BestSoFar s n (i + 1) limit best
+  best-kept here = record { fewer = among-more limit (omega arith) here; start = kept best b.start }
+    where
+      kept : (r : Option Start) → MatchOption r (limit ≡ n + 1) (Begins s n i limit) → MatchOption r (limit ≡ n + 1) (Begins s n (i + 1) limit)
+      kept None e = e
+      kept (Some start) w = record { size = w.size; some = w.some; within = w.within; inside = omega (arith, w.inside); found = w.found }
+
+-- of all nodes
+pub best-all : (s : System) (n limit : ℕ) (best : Option Start) → BestSoFar s n n limit best → BestStart s n best
+best-all s n limit None b = subst (NoneAmong s n) b.start b.fewer
+best-all s n limit (Some start) b =
+    (subst (NoneAmong s n) (sym b.start.size) b.fewer, record { size = refl; some = b.start.some; within = b.start.within; inside = b.start.inside; found = b.start.found })

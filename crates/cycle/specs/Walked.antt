@@ -1,17 +1,16 @@
 -- A losing closed walk read off rows, edge by edge: each row is for one edge fewer, and tells which edges keep the value.
 -- Assumes nothing.
-use Rattle.std.specs.Prelude.{◌≡◌, refl, ℕ, ◌+◌, ◌*◌, ◌≤◌, ◌<◌, get_or, set, take, replicate}
+use Rattle.std.specs.Prelude.{◌≡◌, refl, Option, Some, None, IsSome, ℕ, ◌+◌, ◌*◌, ◌≤◌, ◌<◌, get_or, set, take, replicate}
 use Rattle.std.proofs.Common.{subst, take-suc-set, get_or-set_other, add-one, arith}
 use mathlib.Core.List.{List, [], ◌∷◌, ◌++◌}
 use Rattle.std.proofs.Math.ListN.{length}
-use Rattle.std.proofs.Math.Decide.{dec_lt}
 use Rattle.lists.specs.Fold.{sum_of, sum-append}
 use Rattle.lists.specs.Place.{zeros-at}
 use Rattle.system.specs.Graph.{Walk}
 use Rattle.system.specs.System.{System, gains, costs, LosingWalk}
 use Rattle.system.specs.Walks.{walk-join}
 use Rattle.cycle.specs.Row.{base, Worth, Row}
-use Rattle.cycle.specs.Found.{NextEdge}
+use Rattle.cycle.specs.Found.{NextEdge, KeepsValue}
 
 -- after i edges, from the start to the node, with `left` more to go
 pub record Walked (s : System) (start left i : ℕ) (found : List ℕ) (node value : ℕ) : Type 0 where
@@ -35,35 +34,30 @@ walked_all s start i found node value w = go w.onward.path w.onward.walk w.onwar
     go [] e q h = record { from = start; closed = subst (λ u. Walk s.graph start (take i found) u) e w.done; loss = omega (arith, w.paid) }
     go (e ∷ es) v q h = absurd (omega arith)
 
-module _ (s : System) (start left : ℕ) (row : List ℕ) (node value r : ℕ) (onward : Worth s start (left + 1) node value) (rows : Row s start left row) (n : NextEdge s row node value r) where
+module _ (s : System) (start left : ℕ) (row : List ℕ) (node value : ℕ) (onward : Worth s start (left + 1) node value) (rows : Row s start left row) where
   -- the first edge of a walk that is worth the value gives it, so an edge that does is found
-  pub edge_in : r < s.graph.edges
+  pub edge_found : (r : Option ℕ) → NextEdge s row node value r → IsSome r
   unfolding gains costs sum_of
-  edge_in = go onward.path onward.walk onward.size onward.enough
+  edge_found (Some r) n = refl
+  edge_found None n = absurd (go onward.path onward.walk onward.size onward.enough)
     where
-      go : (es : List ℕ) → Walk s.graph node es start → length es ≡ left + 1 → value + gains s es ≤ base + costs s es → r < s.graph.edges
-      go [] w q h = absurd (omega arith)
-      go (e ∷ es) w q h =
-          elim (dec_lt r s.graph.edges) [
-            | yes l ↦ l
-            | no l ↦ absurd (n.first e (omega (arith, w.0)) w.1 (omega (arith, rows.over (s.graph.head e) es w.2 (omega arith))))
-          ]
+      go : (es : List ℕ) → Walk s.graph node es start → length es ≡ left + 1 → value + gains s es ≤ base + costs s es → ⊥
+      go [] w q h = omega arith
+      go (e ∷ es) w q h = n e w.0 w.1 (omega (arith, rows.over (s.graph.head e) es w.2 (omega arith)))
 
 -- one edge more
 pub walked_more : (s : System) (start left i : ℕ) (found row : List ℕ) (node value r : ℕ) → i < length found
-    → Walked s start (left + 1) i found node value → Row s start left row → NextEdge s row node value r
+    → Walked s start (left + 1) i found node value → Row s start left row → KeepsValue s row node value r
     → Walked s start left (i + 1) (set found i r) (s.graph.head r) (get_or row (s.graph.head r) 0)
 unfolding gains costs sum_of
-walked_more s start left i found row node value r l w rows n =
-    let inside = edge_in s start left row node value r w.onward rows n in
-    let f = n.found inside in
+walked_more s start left i found row node value r l w rows k =
     let v : ℕ = s.graph.head r in
     let es : List ℕ = take i found in
     let longer : take (i + 1) (set found i r) ≡ es ++ (r ∷ []) = rw (add-one i) (take-suc-set found i r l) in
-    let high : 65535 * left < get_or row v 0 = omega (arith, w.high, f.2) in
+    let high : 65535 * left < get_or row v 0 = omega (arith, w.high, k.near) in
     record {
-      done = rw longer (walk-join s.graph start es node (r ∷ []) v w.done (inside, f.0, refl));
-      paid = rw longer (omega (arith, w.paid, f.1, sum-append s.gain es (r ∷ []), sum-append s.cost es (r ∷ [])));
+      done = rw longer (walk-join s.graph start es node (r ∷ []) v w.done (k.within, k.out, refl));
+      paid = rw longer (omega (arith, w.paid, k.given, sum-append s.gain es (r ∷ []), sum-append s.cost es (r ∷ [])));
       onward = rows.worth v high;
       high = high;
       rest = λ p q. rw (get_or-set_other found i p r 0 (λ e. omega arith)) (w.rest p (omega arith));

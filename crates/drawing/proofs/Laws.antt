@@ -1,19 +1,21 @@
 -- Places, rows and the table laid one after the other.
 -- Assumes nothing.
-use mathlib.Core.Path.{◌≡◌, sym, ap, ◌∙◌}
+use mathlib.Core.Path.{◌≡◌, refl, sym, ap, ◌∙◌}
 use mathlib.Core.List.{List, [], ◌∷◌, ◌++◌}
 use mathlib.Core.Bool.{Bool, true, false}
 use mathlib.Core.Logic.{◌≢◌}
-use Prim.Native.Nat.{ℕ, ◌+◌, ◌*◌, ◌-◌, ◌≤◌, ◌<◌}
+use Prim.Native.Nat.{ℕ, zero, suc, ◌+◌, ◌*◌, ◌-◌, ◌≤◌, ◌<◌}
 use native.Mathlib.Omega.{arith}
 use lib.Dec.{eqb}
 use lib.ListN.{length, get_or, length-append}
 use borrow.Author.Rules.{rules}
 use borrow.Author.Tests.{le-ltb, lt-ltb, le-leb, lt-leb, eq-eqb, ne_eqb}
 use Rattle.lists.specs.Pick.{pick, pick_true, pick-false}
-use Rattle.laid.specs.Laid.{Laid}
 use Rattle.laid.specs.Rows.{rows}
-use Rattle.laid.specs.Laws.{nothing, both, row_more, rows_same}
+use Rattle.laid.specs.Laws.{rows_same}
+use Rattle.text.specs.declared.Page.{Page}
+use Rattle.text.specs.Page.{Puts}
+use Rattle.text.specs.PageLaws.{blank, followed, row-put, no-row}
 use Rattle.text.specs.Decimal.{decimal, newline}
 use Rattle.text.specs.Words.{retiming_text}
 use Rattle.form.specs.declared.Form.{Form}
@@ -56,23 +58,28 @@ retiming-some r n h e = rw (pick-false _ _ _ (ne_eqb r 0 h)) (omega (arith, e))
 
 -- ---- a place
 
-module _ (l : List ℕ) (at : ℕ) where
+pub blanks-long : (n : ℕ) → length (blanks n) ≡ n
+unfolding blanks rows
+blanks-long zero = refl
+blanks-long (suc n) = omega (arith, length-append (blanks n) (32 ∷ []), blanks-long n)
+
+module _ (p : Page) where
   -- one blank more
-  pub blank-more : (m o : List ℕ) (i e g : ℕ) → Laid l at (blanks i) m e → Laid m e (32 ∷ []) o g → Laid l at (blanks (i + 1)) o g
+  pub blank-more : (q r : Page) (i : ℕ) → Puts p q (blanks i) → Puts q r (32 ∷ []) → Puts p r (blanks (i + 1))
   unfolding blanks
-  blank-more m o i e g x y = row_more l at (λ k. 32 ∷ []) i m o e g x y
+  blank-more q r i x y = row-put p q r (λ k. 32 ∷ []) i x y
 
-  pub blanks-whole : (m : List ℕ) (i n e : ℕ) → i ≡ n → Laid l at (blanks i) m e → Laid l at (blanks n) m e
-  blanks-whole m i n e h x = rw h at x
+  pub blanks-whole : (q : Page) (i n : ℕ) → i ≡ n → Puts p q (blanks i) → Puts p q (blanks n)
+  blanks-whole q i n h x = rw h at x
 
-  pub no-blank : Laid l at (blanks 0) l at
-  unfolding blanks rows
-  no-blank = nothing l at
+  pub no-blank : Puts p p (blanks 0)
+  unfolding blanks
+  no-blank = no-row p _
 
   -- blanks, and a text of the size that is left for it
-  pub right-put : (text m o : List ℕ) (n e g : ℕ) → n ≡ 6 - length text → Laid l at (blanks n) m e → Laid m e text o g → Laid l at (right text) o g
+  pub right-put : (text : List ℕ) (q r : Page) (n : ℕ) → n ≡ 6 - length text → Puts p q (blanks n) → Puts q r text → Puts p r (right text)
   unfolding right
-  right-put text m o n e g h x y = both l at (blanks (6 - length text)) text m o e g (rw h at x) y
+  right-put text q r n h x y = followed p q r (blanks (6 - length text)) text (rw h at x) y
 
 -- what is left for a number, for a node with its retiming, for one in brackets
 pub number-left : (n d : ℕ) → d ≡ length (decimal n) → 6 - d ≡ 6 - length (decimal n)
@@ -85,40 +92,32 @@ pub held-left : (v d : ℕ) → d ≡ length (decimal v) → 4 - d ≡ 6 - lengt
 held-left v d h = omega (arith, length-append (decimal v) (93 ∷ []))
 
 -- a place where the test passes, nothing where it fails
-module _ (l : List ℕ) (at : ℕ) (test b : Bool) (text : List ℕ) (is : b ≡ test) where
-  pub place_here : (m : List ℕ) (e : ℕ) → b ≡ true → Laid l at text m e → Laid l at (pick test text []) m e
-  place_here m e h x = rw (pick_true _ _ _ (sym is ∙ h)) x
+module _ (p : Page) (test b : Bool) (text : List ℕ) (is : b ≡ test) where
+  pub place_here : (q : Page) → b ≡ true → Puts p q text → Puts p q (pick test text [])
+  place_here q h x = rw (pick_true _ _ _ (sym is ∙ h)) x
 
-  pub place-elsewhere : b ≡ false → Laid l at (pick test text []) l at
-  place-elsewhere h = rw (pick-false _ _ _ (sym is ∙ h)) (nothing l at)
+  pub place-elsewhere : b ≡ false → Puts p p (pick test text [])
+  place-elsewhere h = rw (pick-false _ _ _ (sym is ∙ h)) (blank p)
 
 -- ---- classes and heads
 
-module _ (l : List ℕ) (at c : ℕ) (k : Class) (m o p : List ℕ) (e g h : ℕ)
-    (x : Laid l at (class_word ++ decimal c) m e) (y : Laid m e (latency_word ++ decimal k.latency) o g) (z : Laid o g (units_word ++ decimal k.units) p h) where
-  class-put : (r : List ℕ) (n : ℕ) → Laid p h (pick (eqb k.pipelined 0) plain_word pipelined_word ++ newline) r n → Laid l at (class_line c k) r n
+module _ (c : ℕ) (k : Class) (p q r s : Page)
+    (x : Puts p q (class_word ++ decimal c)) (y : Puts q r (latency_word ++ decimal k.latency)) (z : Puts r s (units_word ++ decimal k.units)) where
+  class-put : (t : Page) → Puts s t (pick (eqb k.pipelined 0) plain_word pipelined_word ++ newline) → Puts p t (class_line c k)
   unfolding class_line
-  class-put r n w = both l at _ _ m r e n x (both m e _ _ o r g n y (both o g _ _ p r h n z w))
+  class-put t w = followed p q t _ _ x (followed q r t _ _ y (followed r s t _ _ z w))
 
-  pub plain-put : (r : List ℕ) (n : ℕ) → k.pipelined ≡ 0 → Laid p h (plain_word ++ newline) r n → Laid l at (class_line c k) r n
-  plain-put r n t w = class-put r n (rw (pick_true _ _ _ (eq-eqb k.pipelined 0 t)) w)
+  pub plain-put : (t : Page) → k.pipelined ≡ 0 → Puts s t (plain_word ++ newline) → Puts p t (class_line c k)
+  plain-put t h w = class-put t (rw (pick_true _ _ _ (eq-eqb k.pipelined 0 h)) w)
 
-  pub pipelined-put : (r : List ℕ) (n : ℕ) → k.pipelined ≢ 0 → Laid p h (pipelined_word ++ newline) r n → Laid l at (class_line c k) r n
-  pipelined-put r n t w = class-put r n (rw (pick-false _ _ _ (ne_eqb k.pipelined 0 t)) w)
+  pub pipelined-put : (t : Page) → k.pipelined ≢ 0 → Puts s t (pipelined_word ++ newline) → Puts p t (class_line c k)
+  pipelined-put t h w = class-put t (rw (pick-false _ _ _ (ne_eqb k.pipelined 0 h)) w)
 
-pub head-put : (l : List ℕ) (at c u : ℕ) (m o p : List ℕ) (n e g h : ℕ) → n ≡ 6 * (u - 1)
-    → Laid l at bar_word m e → Laid m e (blanks n) o g → Laid o g (right (decimal c)) p h → Laid l at (head_text c u) p h
+pub head-put : (c u n : ℕ) (p q r s : Page) → n ≡ 6 * (u - 1) → Puts p q bar_word → Puts q r (blanks n) → Puts r s (right (decimal c)) → Puts p s (head_text c u)
 unfolding head_text
-head-put l at c u m o p n e g h is x y z = both l at bar_word _ m p e h x (both m e (blanks (6 * (u - 1))) _ o p g h (rw is at y) z)
+head-put c u n p q r s is x y z = followed p q s bar_word _ x (followed q r s (blanks (6 * (u - 1))) _ (rw is at y) z)
 
 -- ---- the places of a class in a step
-
--- the place of one node more, by what the tables hold of it
-pub start-more : (q c : ℕ) (runs start retiming l : List ℕ) (at : ℕ) (m o : List ℕ) (i e g k s r : ℕ)
-    → Laid l at (rows (λ v. start_place q c v (get_or runs v 0) (get_or start v 0) (get_or retiming v 0)) i) m e → Laid m e (start_place q c i k s r) o g
-    → k ≡ get_or runs i 0 → s ≡ get_or start i 0 → r ≡ get_or retiming i 0
-    → Laid l at (rows (λ v. start_place q c v (get_or runs v 0) (get_or start v 0) (get_or retiming v 0)) (i + 1)) o g
-start-more q c runs start retiming l at m o i e g k s r x y is-k is-s is-r = row_more l at _ i m o e g x (rw (is-k, is-s, is-r) at y)
 
 module _ (f : Form) (steps nodes : ℕ) (runs start retiming : List ℕ) (t : Noted f steps nodes runs start retiming) (q c : ℕ) where
   starts-same : rows (λ v. start_place q c v (get_or runs v 0) (get_or start v 0) (get_or retiming v 0)) nodes ≡ rows (λ v. start_place q c v (node_of f v).class (start_of f v) (retiming_of f v)) f.header.nodes
@@ -141,14 +140,14 @@ module _ (f : Form) (steps nodes : ℕ) (runs start retiming : List ℕ) (t : No
 
   -- the bar, the nodes that start, those that hold, the free units
   pub places-put : (k : Class) (held taken free : ℕ) → k ≡ class_of f c → held ≡ hold k → taken ≡ busy_in steps runs start c held q nodes → free ≡ k.units - taken
-      → (l : List ℕ) (at : ℕ) (m o p r : List ℕ) (e g h n : ℕ) → Laid l at bar_word m e
-      → Laid m e (rows (λ v. start_place q c v (get_or runs v 0) (get_or start v 0) (get_or retiming v 0)) nodes) o g
-      → Laid o g (rows (λ v. held_place q c held v (get_or runs v 0) (get_or start v 0)) nodes) p h
-      → Laid p h (rows (λ i. free_word) free) r n → Laid l at (places_text f q c) r n
+      → (p₀ p₁ p₂ p₃ p₄ : Page) → Puts p₀ p₁ bar_word
+      → Puts p₁ p₂ (rows (λ v. start_place q c v (get_or runs v 0) (get_or start v 0) (get_or retiming v 0)) nodes)
+      → Puts p₂ p₃ (rows (λ v. held_place q c held v (get_or runs v 0) (get_or start v 0)) nodes)
+      → Puts p₃ p₄ (rows (λ i. free_word) free) → Puts p₀ p₄ (places_text f q c)
   unfolding places_text
-  places-put k held taken free is-k is_held_lem is-taken is_free l at m o p r e g h n x y z w =
+  places-put k held taken free is-k is_held_lem is-taken is_free p₀ p₁ p₂ p₃ p₄ x y z w =
       let has : held ≡ hold (class_of f c) = is_held_lem ∙ ap hold is-k in
       let busy-is : taken ≡ busy (loop_of f) (pair_of f) c q = is-taken ∙ ap (λ (b : ℕ). busy_in steps runs start c b q nodes) has ∙ busy-same in
       let free-is : free ≡ (class_of f c).units - busy (loop_of f) (pair_of f) c q = is_free ∙ rw (is-k, busy-is) in
-      both l at bar_word _ m r e n x
-      (both m e _ _ o r g n (rw starts-same at y) (both o g _ _ p r h n (rw (held_same (hold (class_of f c))) at (rw has at z)) (rw free-is at w)))
+      followed p₀ p₁ p₄ bar_word _ x
+      (followed p₁ p₂ p₄ _ _ (rw starts-same at y) (followed p₂ p₃ p₄ _ _ (rw (held_same (hold (class_of f c))) at (rw has at z)) (rw free-is at w)))

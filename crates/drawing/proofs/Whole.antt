@@ -14,10 +14,13 @@ use Rattle.lists.specs.Filled.{filled_at}
 use Rattle.answer.specs.Refused.{fine}
 use Rattle.laid.specs.Laid.{Laid}
 use Rattle.laid.specs.Rows.{rows}
-use Rattle.laid.specs.Laws.{both, same-long}
+use Rattle.laid.specs.Laws.{same-long}
+use Rattle.text.specs.declared.Page.{Page}
+use Rattle.text.specs.Page.{Puts}
+use Rattle.text.specs.PageLaws.{followed}
 use Rattle.form.specs.declared.Form.{Form}
-use Rattle.form.specs.Places.{node_of, start_of, no_class}
-use Rattle.reader.specs.declared.Record.{Record}
+use Rattle.form.specs.Places.{node_of, class_of, start_of, no_class}
+use Rattle.reader.specs.Outcome.{Record}
 use Rattle.reader.specs.Reading.{read_form}
 use Rattle.text.specs.Decimal.{decimal, newline}
 use Rattle.tables.specs.declared.Timetable.{Timetable}
@@ -31,10 +34,9 @@ use Rattle.drawing.specs.Noted.{Noted, Narrow, TimesTabled}
 
 -- ---- a row
 
-pub row_put : (f : Form) (q n : ℕ) → n ≡ f.header.classes → (l : List ℕ) (at : ℕ) (m o p : List ℕ) (e g h : ℕ) → Laid l at (right (decimal q)) m e
-    → Laid m e (rows (places_text f q) n) o g → Laid o g newline p h → Laid l at (row_text f q) p h
+pub row_put : (f : Form) (q n : ℕ) → n ≡ f.header.classes → (p r s t : Page) → Puts p r (right (decimal q)) → Puts r s (rows (places_text f q) n) → Puts s t newline → Puts p t (row_text f q)
 unfolding row_text
-row_put f q n is l at m o p e g h x y z = both l at _ _ m p e h x (both m e _ _ o p g h (rw is at y) z)
+row_put f q n is p r s t x y z = followed p r t _ _ x (followed r s t _ _ (rw is at y) z)
 
 -- ---- a timetable
 
@@ -81,13 +83,12 @@ module _ (f : Form) (t : Timetable) (is : t ≡ times_of f) where
   unfolding times_of
   times-length = rw is refl
 
-  pub table-put : (l m o p r s : List ℕ) (e g h i n : ℕ) → Laid l 0 (rows (λ c. class_line c (get_or t.class c no_class)) t.classes) m e
-      → Laid m e step_word o g → Laid o g (rows (λ c. head_text c (get_or t.class c no_class).units) t.classes) p h → Laid p h newline r i
-      → Laid r i (rows (λ k. row_text f (k + 1)) f.header.length) s n → Laid l 0 (table_text f) s n
+  pub table-put : (p₀ p₁ p₂ p₃ p₄ p₅ : Page) → Puts p₀ p₁ (rows (λ c. class_line c (get_or t.class c no_class)) t.classes) → Puts p₁ p₂ step_word
+      → Puts p₂ p₃ (rows (λ c. head_text c (get_or t.class c no_class).units) t.classes) → Puts p₃ p₄ newline → Puts p₄ p₅ (rows (λ k. row_text f (k + 1)) f.header.length) → Puts p₀ p₅ (table_text f)
   unfolding table_text heads_line
-  table-put l m o p r s e g h i n x y z w v =
-      both l 0 _ _ m s e n (rw (times-class, times-classes) at x)
-      (both m e _ _ r s i n (both m e _ _ o r g i y (both o g _ _ p r h i (rw (times-class, times-classes) at z) w)) v)
+  table-put p₀ p₁ p₂ p₃ p₄ p₅ x y z w v =
+      followed p₀ p₁ p₅ _ _ (rw (times-class, times-classes) at x)
+      (followed p₁ p₄ p₅ _ _ (followed p₁ p₂ p₄ _ _ y (followed p₂ p₃ p₄ _ _ (rw (times-class, times-classes) at z) w)) v)
 
 -- ---- a record
 
@@ -132,3 +133,15 @@ module _ (s : List ℕ) (r : Record) (back : r ≡ read_form s) where
     fits last end h y =
         let enough = le-ltb (length out) (length (drawing_of s)) (omega (arith, size_is, ap length nothing_put, length-append m out)) in
         (size_is ∙ sym (pick-false _ _ _ enough), y.is ∙ rw (nothing_put, ← (a-drawing good)) (sym (pick-false _ _ _ enough)))
+
+-- a table has a head at least
+pub some-size : (f : Form) (m : List ℕ) (size : ℕ) → Laid [] 0 (table_text f) m size → 0 < size
+unfolding table_text heads_line step_word
+some-size f m size x =
+    omega (
+      arith,
+      x.ends,
+      length-append (rows (λ c. class_line c (class_of f c)) f.header.classes) (heads_line f ++ rows (λ i. row_text f (i + 1)) f.header.length),
+      length-append (heads_line f) (rows (λ i. row_text f (i + 1)) f.header.length),
+      length-append step_word (rows (λ c. head_text c (class_of f c).units) f.header.classes ++ newline),
+    )

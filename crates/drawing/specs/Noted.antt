@@ -16,6 +16,10 @@ pub record Noted (f : Form) (steps nodes : ℕ) (runs start retiming : List ℕ)
   pub starts : (v : ℕ) → v < nodes → start_of f v ≡ get_or start v 0
   pub retimed : (v : ℕ) → v < nodes → retiming_of f v ≡ get_or retiming v 0
 
+-- the same of a timetable
+abbrev pub NotedBy : Form → Timetable → Type 0
+NotedBy f t = Noted f t.length t.nodes t.runs t.start t.retiming
+
 -- at most 4 classes of at most 8 units
 pub record Narrow (classes : ℕ) (class : List Class) : Type 0 where
   pub few : classes ≤ 4

@@ -1,50 +1,30 @@
 -- Each way a field goes, and what a field that was taken tells.
 -- Assumes nothing.
-use Rattle.std.specs.Prelude.{◌≡◌, List, ◌⊎◌, ltb, length}
+use Rattle.std.specs.Prelude.{◌≡◌, List, ◌⊎◌, ltb, length, Some, Ok, Err}
 use Rattle.std.proofs.Math.Path.{refl}
-use Rattle.std.proofs.Common.{◌∙◌}
+use Rattle.std.proofs.Common.{ap, subst}
 use Rattle.std.proofs.Math.Bool.{true, false}
 use Rattle.std.proofs.Math.Logic.{inl, inr}
 use Prim.Native.Nat.{ℕ, ◌+◌, ◌≤◌, ◌<◌}
 use native.Mathlib.Omega.{arith}
 use borrow.Author.Tests.{lt-ltb, le-ltb, ltb-true, ltb-false}
 use Rattle.lists.specs.Pick.{pick, pick_ind, both_ways}
-use Rattle.answer.specs.Refused.{fine}
+use Rattle.answer.specs.Refused.{fine, refused_fine}
 use Rattle.answer.specs.declared.Refusal.{Refusal}
 use Rattle.answer.specs.declared.Refusal.TheVariants as refusal
 use Rattle.field.specs.declared.Kind.{Kind}
 use Rattle.field.specs.declared.Kind.TheVariants.{Mark, Version, Count, Machine, Node, Edge, Start, Retiming}
-use Rattle.field.specs.declared.Cursor.{Cursor}
-use Rattle.field.specs.declared.Taken.{Taken}
+use Rattle.field.specs.Outcome.{Cursor, Taken, taken_in}
 use Rattle.field.specs.Number.{number_at}
 use Rattle.field.specs.Taking.{wrong_at, onward, stopped_at, taken, Took}
 
-module _ (s : List ℕ) (c : Cursor) (width low high : ℕ) (kind : Kind) where
-  pub took-refused : fine c.refusal ≡ false → Took s c width low high kind (record { value = 0; next = c })
-  unfolding taken pick
-  took-refused f = record { is = rw f; small = omega arith; near = omega arith }
+-- after a refusal nothing is taken
+pub taken-refused : (s : List ℕ) (c : Cursor) (width low high : ℕ) (kind : Kind) → fine c.refusal ≡ false → taken s c width low high kind ≡ record { value = 0; next = c }
+unfolding taken pick
+taken-refused s c width low high kind f = rw f
 
-  -- whatever stops the field stops it at its offset
-  stays : (t : Taken) (r : Refusal) → t ≡ stopped_at c.at r → stopped_at c.at r ≡ taken s c width low high kind → Took s c width low high kind t
-  stays t r e is = record { is = e ∙ is; small = rw e (omega arith); near = rw e (omega arith) }
-
-  module _ (f : fine c.refusal ≡ true) where
-    pub took-short : (t : Taken) → length s < c.at + width → t ≡ stopped_at c.at (refusal.Short c.at) → Took s c width low high kind t
-    unfolding taken pick
-    took-short t h e = stays t (refusal.Short c.at) e (rw (f, lt-ltb _ _ h))
-
-    module _ (long : c.at + width ≤ length s) (v : ℕ) (v-is : v ≡ number_at width s c.at) where
-      pub took-low : (t : Taken) (r : Refusal) → v < low → r ≡ wrong_at kind c.at → t ≡ stopped_at c.at r → Took s c width low high kind t
-      unfolding taken pick
-      took-low t r h w e = stays t r e (rw (w, f, le-ltb _ _ long, ← v-is, lt-ltb _ _ h))
-
-      pub took-high : (t : Taken) (r : Refusal) → low ≤ v → high < v → r ≡ wrong_at kind c.at → t ≡ stopped_at c.at r → Took s c width low high kind t
-      unfolding taken pick
-      took-high t r l h w e = stays t r e (rw (w, f, le-ltb _ _ long, ← v-is, le-ltb _ _ l, lt-ltb _ _ h))
-
-      pub took-good : low ≤ v → v ≤ high → Took s c width low high kind (record { value = v; next = onward (c.at + width) })
-      unfolding taken pick
-      took-good l h = record { is = rw (f, le-ltb _ _ long, ← v-is, le-ltb _ _ l, le-ltb _ _ h); small = h; near = omega arith }
+pub taken_stopped : (s : List ℕ) (at : ℕ) (e : Refusal) (width low high : ℕ) (kind : Kind) → taken s (record { at = at; refusal = Some e }) width low high kind ≡ stopped_at at (Some e)
+taken_stopped s at e width low high kind = taken-refused s (record { at = at; refusal = Some e }) width low high kind (refused_fine e)
 
 -- a field whose number is out of range, at a cursor that was fine
 pub record Outside (s : List ℕ) (c : Cursor) (width low high : ℕ) (kind : Kind) (next : Cursor) : Type 0 where

@@ -1,4 +1,4 @@
-// One field of a record, taken from the lent bytes at a cursor.
+// One field of a record, taken from the lent bytes at its offset.
 #![tactic(auto)]
 
 ghost use Rattle.std.specs.Prelude.{◌≡◌, ◌+◌, ◌≤◌, ◌<◌, length};
@@ -20,30 +20,14 @@ pub enum Kind {
     Retiming,
 }
 
-// The offset of the next field; once something is refused, of the field that was.
-#[derive(Clone, Copy)]
-pub struct Cursor {
-    pub at: usize,
-    pub refusal: Refusal,
-}
-
-// A field's value, 0 if it was refused, and where to go on.
-#[derive(Clone, Copy)]
-pub struct Taken {
-    pub value: u32,
-    pub next: Cursor,
-}
-
 // The number in the `width` bytes from `at` on, the lowest byte first. Each byte is read by the thin reader.
 pub fn number_at(s: &[u8], at: usize, width: usize) -> u32
     requires { (at + width ≤ length s.now) × (width ≤ 4) }
     ensures { result ≡ number_at width s.now at }
 {
     let mut value: u32 = 0;
-    let mut left = width;
-    while 0 < left {
-        left -= 1;
-        let byte = thin::byte_from(s, at + left) as u32;
+    for place in (0..width).rev() {
+        let byte = thin::byte_from(s, at + place) as u32;
         value = value * 256 + byte;
     }
     value
@@ -51,7 +35,7 @@ pub fn number_at(s: &[u8], at: usize, width: usize) -> u32
 
 // The refusal of a field that is out of range.
 pub fn wrong_at(kind: Kind, at: u32) -> Refusal
-    ensures { result ≡ wrong_at kind at }
+    ensures { Some result ≡ wrong_at kind at }
 {
     match kind {
         Kind::Mark => Refusal::Mark(at),
@@ -65,44 +49,25 @@ pub fn wrong_at(kind: Kind, at: u32) -> Refusal
     }
 }
 
-// The cursor that stays at a refused field.
-fn stopped(at: usize, refusal: Refusal) -> Taken
-    ensures { result ≡ record { value = 0; next = record { at = at; refusal = refusal } } }
+// The field at an offset: `width` bytes that hold a number from `low` to `high`.
+#[tactic(auto, using(std::proofs::lemmas::Grind::common_steps, std::proofs::lemmas::Bool::Decides::nat_tests), unfolding(crate::specs::Taking::taken, answer::specs::Refused::fine, lists::specs::Pick::pick))]
+pub fn take(
+    s: &[u8],
+    at: usize,
+    width: usize,
+    low: u32,
+    high: u32,
+    kind: Kind,
+) -> Result<u32, Refusal>
+    requires { (at ≤ 60000) × (width ≤ 4) }
+    ensures { Took s.now at width low high kind result }
 {
-    Taken {
-        value: 0,
-        next: Cursor { at, refusal },
-    }
-}
-
-// The field at the cursor: `width` bytes that hold a number from `low` to `high`.
-pub fn take(s: &[u8], cursor: Cursor, width: usize, low: u32, high: u32, kind: Kind) -> Taken
-    requires { (cursor.at ≤ 60000) × (width ≤ 4) }
-    ensures { Took s.now cursor width low high kind result }
-{
-    let at = cursor.at;
-    let refusal = cursor.refusal;
-    if !refusal.is_fine() {
-        return Taken {
-            value: 0,
-            next: cursor,
-        };
-    }
     if s.len() < at + width {
-        return stopped(at, Refusal::Short(at as u32));
+        return Err(Refusal::Short(at as u32));
     }
     let value = number_at(s, at, width);
-    if value < low {
-        return stopped(at, wrong_at(kind, at as u32));
+    if !(low..=high).contains(&value) {
+        return Err(wrong_at(kind, at as u32));
     }
-    if high < value {
-        return stopped(at, wrong_at(kind, at as u32));
-    }
-    Taken {
-        value,
-        next: Cursor {
-            at: at + width,
-            refusal: Refusal::None,
-        },
-    }
+    Ok(value)
 }

@@ -1,15 +1,14 @@
--- What the proofs of the fit share: tables filled place by place, and the top of a run.
+-- What the proofs of the fit share: tables filled place by place, and the top of values as a fold.
 -- Assumes nothing.
-use mathlib.Core.Path.{◌≡◌, refl, sym, ◌∙◌}
+use Rattle.std.specs.Prelude.{fold}
+use mathlib.Core.Path.{◌≡◌, sym, ◌∙◌}
 use mathlib.Core.List.{List, [], ◌∷◌}
-use Prim.Native.Nat.{ℕ, zero, suc, ◌+◌, ◌-◌, ◌/◌, ◌≤◌, ◌<◌, max}
-use native.Mathlib.Nat.{not-suc-le-zero, div-eq_of_lt, div-lt_iff_lt-mul, mul-le-mul_left}
-use native.Mathlib.Numerals.{add-one}
+use Prim.Native.Nat.{ℕ, ◌+◌, ◌-◌, ◌/◌, ◌≤◌, ◌<◌, max}
+use native.Mathlib.Nat.{not-suc-le-zero}
 use native.Mathlib.Omega.{arith}
-use lib.ListN.{length, get_or, set, take}
+use lib.ListN.{length, get_or, set}
 use Rattle.lists.specs.Place.{filled_more}
 use Rattle.lists.specs.Fold.{top}
-use Rattle.lists.specs.Quotient.{divided}
 use Rattle.legal.specs.Loop.{Loop, Pair}
 use Rattle.tables.specs.declared.Timetable.{Timetable}
 use Rattle.tables.specs.Edges.{Ends, Told}
@@ -17,25 +16,9 @@ use Rattle.tables.specs.Times.{Timed}
 use Rattle.legal.specs.Systems.{lateness}
 use Rattle.fit.specs.Tables.{Limited}
 
--- ---- how late an edge is, as the code computes it
-
-module _ (l f x : ℕ) (one : 1 ≤ x) (to : x ≤ l) where
-  pub late-none : f ≤ x → 0 ≡ (f + (l - 1) - x) / l
-  late-none h = sym (div-eq_of_lt {n = f + (l - 1) - x} {m = l} (omega arith))
-
-  pub late-one : x < f → f ≤ x + l → 1 ≡ (f + (l - 1) - x) / l
-  late-one h k = sym (divided 1 l (f - 1 - x) (f + (l - 1) - x) (omega arith) (omega arith)).0
-
-  -- an operation of one body and 255 steps more is not late by more than fits
-  pub late-few : f ≤ l + 255 → (f + (l - 1) - x) / l ≤ 65535
-  late-few h = omega (arith, (div-lt_iff_lt-mul {k = l} {x = f + (l - 1) - x} {y = 258} (omega arith)).1 (omega (arith, mul-le-mul_left {m = 1} {n = l} 258 (omega arith))))
-
 -- ---- the limits
 
 module _ (g : Loop) (p : Pair) where
-  pub limited-none : (gains costs : List ℕ) → Limited g p 0 gains costs
-  limited-none gains costs = record { gain = λ e h. absurd (not-suc-le-zero h); cost = λ e h. absurd (not-suc-le-zero h) }
-
   pub limited-more : (e gain cost : ℕ) (gains costs : List ℕ) → e < length gains → e < length costs → gain ≡ g.delay e → cost ≡ lateness g p e
       → Limited g p e gains costs → Limited g p (e + 1) (set gains e gain) (set costs e cost)
   limited-more e gain cost gains costs h k is-gain is-cost t = record {
@@ -59,18 +42,9 @@ module _ (g : Loop) (p : Pair) where
         let v = ends.head_in e l in
         is ∙ rw (told.is_tail e l, told.is_head e l, timed.starts _ u, timed.starts _ v, timed.takes _ u, timed.is_length)
 
--- ---- the top of the first values
+-- ---- the top of values, as a fold over them
 
-pub top-none : (ys : List ℕ) → 0 ≡ top (take 0 ys)
+pub max-fold : (x : ℕ) (xs : List ℕ) → fold max x xs ≡ max x (top xs)
 unfolding top
-top-none ys = refl
-
-top-next : (ys : List ℕ) (v : ℕ) → top (take (suc v) ys) ≡ max (top (take v ys)) (get_or ys v 0)
-unfolding top
-top-next [] zero = omega arith
-top-next [] (suc v) = omega arith
-top-next (y ∷ ys) zero = omega arith
-top-next (y ∷ ys) (suc v) = omega (arith, top-next ys v)
-
-pub top-more : (ys : List ℕ) (v : ℕ) → top (take (v + 1) ys) ≡ max (top (take v ys)) (get_or ys v 0)
-top-more ys v = rw add-one (top-next ys v)
+max-fold x [] = omega arith
+max-fold x (y ∷ ys) = omega (arith, max-fold (max x y) ys)

@@ -9,13 +9,13 @@ use lib.ListN.{get_or, take, replicate}
 use lib.Seq.{get_or-take}
 use Rattle.lists.specs.Filled.{filled}
 use Rattle.lists.specs.Fold.{top, top-over}
-use Rattle.system.specs.declared.Settled.{Settled}
+use Rattle.system.specs.Outcome.{Settled}
 use Rattle.system.specs.Graph.{Joined}
 use Rattle.system.specs.System.{System, system_of}
 use Rattle.system.specs.Rounds.{settled_of}
 use Rattle.system.specs.Same.{Same, same-settled, same-losing}
 use Rattle.system.specs.Turned.{top_of, turned_at}
-use Rattle.solve.specs.declared.Solution.{Solution}
+use Rattle.solve.specs.Outcome.{Solution}
 use Rattle.solve.specs.Solved.{Solved}
 use Rattle.legal.specs.Loop.{Loop, Pair}
 use Rattle.legal.specs.Systems.{limits}

@@ -1,3 +1,4 @@
+pub mod Outcome
 pub mod Tables
 pub mod Retimed
 pub mod Fitting

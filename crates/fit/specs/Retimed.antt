@@ -10,7 +10,7 @@ use Rattle.form.specs.Places.{with_starts}
 use Rattle.legal.specs.Loop.{Loop, Pair, loop_of, pair_of}
 use Rattle.legal.specs.Systems.{limits, Impossible}
 use Rattle.legal.specs.Fitted.{fitted}
-use Rattle.fit.specs.declared.Fitting.{Fitting}
+use Rattle.fit.specs.Outcome.{Fitting}
 use Rattle.fit.specs.Tables.{Described}
 
 -- of least depth, and node by node the largest of those; unused places are 0

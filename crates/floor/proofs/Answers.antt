@@ -1,24 +1,28 @@
 -- The ways that the floor answers: by each part, with a knot, of a record.
 -- Assumes nothing.
-use mathlib.Core.Path.{◌≡◌, refl, sym, ap, ◌∙◌}
+use Rattle.std.specs.Prelude.{Option, None, Some, Ok, Err, IsSome, IsSomeAnd}
+use mathlib.Core.Path.{◌≡◌, refl, sym, ap, ◌∙◌, subst}
 use mathlib.Core.Bool.{true, false}
 use mathlib.Core.Logic.{◌≢◌}
 use mathlib.Core.List.{List, map}
-use Prim.Native.Nat.{ℕ, ◌-◌, ◌≤◌, ◌<◌, max}
+use Prim.Native.Nat.{ℕ, ◌+◌, ◌-◌, ◌≤◌, ◌<◌, max}
 use native.Mathlib.Omega.{arith}
 use lib.ListN.{get_or}
 use Rattle.lists.specs.Pick.{pick, pick_true, pick-false}
 use Rattle.lists.specs.Span.{span}
 use Rattle.lists.specs.Fold.{top}
 use Rattle.lists.specs.Sums.{top-each, top-under}
-use Rattle.answer.specs.Refused.{number_of, fine}
-use Rattle.answer.specs.Outcome.{no_cycle, edges_of}
+use Rattle.answer.specs.Refused.{number_of, fine, refused_fine, none_fine}
+use Rattle.answer.specs.Outcome.{no_cycle, edges_of, cycle_or}
 use Rattle.answer.specs.Tally.{Tallies, none-tallies}
 use Rattle.answer.specs.declared.Cycle.{Cycle}
+use Rattle.answer.specs.declared.Refused.{Refused}
+use Rattle.answer.specs.declared.Refusal.{Refusal}
 use Rattle.answer.specs.declared.Refusal.TheVariants as refusal
+use Rattle.form.specs.declared.Edges.{Edges}
 use Rattle.form.specs.declared.Form.{Form}
 use Rattle.form.specs.Ranges.{WellFormed}
-use Rattle.reader.specs.declared.Record.{Record}
+use Rattle.reader.specs.Outcome.{Record, record_in}
 use Rattle.reader.specs.Reading.{read_form}
 use Rattle.system.specs.System.{Losing}
 use Rattle.legal.specs.Loop.{Loop, Pair, loop_of, latency as latencyOn}
@@ -27,13 +31,15 @@ use Rattle.legal.specs.Shape.{sound-form}
 use Rattle.legal.specs.Knots.{unknotted-free}
 use Rattle.tables.specs.declared.Timetable.{Timetable}
 use Rattle.tables.specs.Most.{most_of}
-use Rattle.tables.specs.Times.{Timed}
-use Rattle.knots.specs.Found.{KnotFound}
+use Rattle.tables.specs.Times.{times_of, Timed}
+use Rattle.tables.specs.Edges.{ToldBy}
+use Rattle.tables.specs.Lent.{Lent, LentBy, lent-form}
+use Rattle.knots.specs.Found.{KnotFound, Untied}
 use Rattle.record.specs.Early.{read-early}
 use Rattle.record.specs.ReadFirst.{first-refused, first-asked}
-use Rattle.floor_part.specs.declared.Part.{Part}
-use Rattle.floor_part.specs.declared.Part.TheVariants as part
-use Rattle.floor.specs.declared.Floored.{Floored}
+use Rattle.floor_part.specs.Parts.{Part}
+use Rattle.floor_part.specs.Parts as part
+use Rattle.floor.specs.Outcome.{Floored, floored_in}
 use Rattle.floor.specs.Parts.{latency_part, units_part, units_parts, cycle_part, floor_length}
 use Rattle.floor.specs.Least.{enough, short-less, cycle-512}
 use Rattle.floor.specs.Tables.{Measured}
@@ -82,9 +88,9 @@ module _ (g : Loop) (a b class floor : ℕ) (parts : Measured g a b class floor)
 
 -- ---- a form
 
-none-fine : fine refusal.None ≡ true
-unfolding fine
-none-fine = refl
+pub some-of : {T : Type 0} (o : Option T) (P : T → Type 0) → IsSomeAnd o P → IsSome o
+some-of None P h = elim h [ ]
+some-of (Some x) P h = refl
 
 -- no length below the floor is enough, and there is one
 abbrev pub Below : Form → ℕ → Type 0
@@ -100,32 +106,33 @@ alone-cycle g r n m e = record {
 }
 
 module _ (f : Form) (free : knotted (loop_of f) ≡ false) where
-  floored : (r : Floored) (x : Part) → Attains (loop_of f) x → r.refusal ≡ refusal.None → r.floor ≡ floor_length (loop_of f) → r.part ≡ x → FloorCycle (loop_of f) r
+  floored : (r : Floored) (x : Part) → Attains (loop_of f) x → r.refusal ≡ None → r.floor ≡ floor_length (loop_of f) → r.part ≡ x → FloorCycle (loop_of f) r
       → FormFloored f r
   unfolding floor_refusal
   floored r x a none is named cycle =
-      let fin : fine r.refusal ≡ true = ap fine none ∙ none-fine in
+      let fin : fine r.refusal ≡ true = ap fine none ∙ none_fine in
       record {
-        refusal = none ∙ sym (pick-false (knotted (loop_of f)) refusal.Knot refusal.None free);
+        refusal = none ∙ sym (pick-false (knotted (loop_of f)) (Some refusal.Knot) None free);
         floor = is ∙ sym (pick_true (fine r.refusal) (floor_length (loop_of f)) 0 fin);
         part = named ∙ sym (named-is (loop_of f) x a) ∙ sym (pick_true (fine r.refusal) (part_of (loop_of f)) part.None fin);
         cycle = cycle;
       }
 
   -- with (a) and (b)
-  pub floored-alone : (r : Floored) (x : Part) (floor : ℕ) → part_number x ≢ 3 → Attains (loop_of f) x → floor ≡ floor_length (loop_of f)
-      → (r.refusal ≡ refusal.None) × (r.floor ≡ floor) × (r.part ≡ x) × (r.cycle ≡ no_cycle) → FormFloored f r
-  floored-alone r x floor n a is e =
-      floored r x a e.0 (e.1 ∙ is) e.2
-      (alone-cycle (loop_of f) r (λ k. omega (arith, k, ap number_of e.0)) (λ k. n (sym (ap part_number e.2) ∙ k)) e.3)
+  pub floored-alone : (x : Part) (floor : ℕ) → part_number x ≢ 3 → Attains (loop_of f) x → floor ≡ floor_length (loop_of f)
+      → FormFloored f (record { refusal = None; floor = floor; part = x; cycle = no_cycle })
+  floored-alone x floor n a is =
+      floored _ x a refl is refl
+      (alone-cycle (loop_of f) _ (λ k. let z : ◌≡◌ {A = ℕ} 0 12 = k in omega arith) n refl)
 
   -- with (c)
-  pub floored-cycle : (floor : ℕ) (c : Cycle) → Attains (loop_of f) part.Cycle → floor ≡ floor_length (loop_of f) → Losing (paces (loop_of f) (floor - 1)) (edges_of c) × Tallies c
-      → FormFloored f (record { refusal = refusal.None; floor = floor; part = part.Cycle; cycle = c })
-  floored-cycle floor c a is breaks =
+  pub floored-cycle : (floor short : ℕ) (c : Cycle) → Attains (loop_of f) part.Cycle → floor ≡ floor_length (loop_of f) → short + 1 ≡ floor → Losing (paces (loop_of f) short) (edges_of c) × Tallies c
+      → FormFloored f (record { refusal = None; floor = floor; part = part.Cycle; cycle = c })
+  floored-cycle floor short c a is next breaks =
+      let below : short ≡ floor_length (loop_of f) - 1 = omega arith in
       floored _ part.Cycle a refl is refl (record {
         knot = λ k. let n : ◌≡◌ {A = ℕ} 0 12 = ap number_of k in absurd (omega arith);
-        breaks = λ _. rw (← is) breaks.0;
+        breaks = λ _. rw (← below) breaks.0;
         none = λ _ n. absurd (n refl);
         tallies = breaks.1;
       })
@@ -141,10 +148,10 @@ module _ (f : Form) (free : knotted (loop_of f) ≡ false) where
       )
 
 -- with a knot
-pub floored-knot : (f : Form) (c : Cycle) → KnotFound (loop_of f) c → 0 < c.count → FormFloored f (record { refusal = refusal.Knot; floor = 0; part = part.None; cycle = c })
+knotted-floored : (f : Form) (c : Cycle) → KnotFound (loop_of f) c → 0 < c.count → FormFloored f (record { refusal = Some refusal.Knot; floor = 0; part = part.None; cycle = c })
 unfolding floor_refusal fine pick
-floored-knot f c found l = record {
-  refusal = sym (pick_true (knotted (loop_of f)) refusal.Knot refusal.None (found.tied l));
+knotted-floored f c found l = record {
+  refusal = sym (pick_true (knotted (loop_of f)) (Some refusal.Knot) None (found.tied l));
   floor = refl;
   part = refl;
   cycle = record {
@@ -155,27 +162,39 @@ floored-knot f c found l = record {
   };
 }
 
+-- without one
+pub free-lent : (f : Form) (e : Edges) (t : Timetable) → LentBy f e t → ((g : Loop) → ToldBy g t.nodes e → KnotFound g no_cycle) → knotted (loop_of f) ≡ false
+free-lent f e t lent found = (found _ lent.told).free refl
+
+pub floored-knot : (f : Form) (e : Refused) → Untied (loop_of f) (Err e) → FormFloored f (floored_in (Err e))
+floored-knot f e u =
+    subst (λ (r : Refusal). FormFloored f (record { refusal = Some r; floor = 0; part = part.None; cycle = cycle_or e.cycle })) (sym u.0) (knotted-floored f (cycle_or e.cycle) u.1 u.2)
+
 -- ---- a record
 
-module _ (s : List ℕ) (r : Record) (back : r ≡ read_form s) where
-  module _ (j : Floored) where
-    pub record-refused : fine r.refusal ≡ false → (j.refusal ≡ r.refusal) × (j.floor ≡ 0) × (j.part ≡ part.None) × (j.cycle ≡ no_cycle) → RecordFloored s j
-    unfolding floor_record
-    record-refused f e =
-        let n : number_of j.refusal ≤ 10 = rw (e.0, back) (read-early s) in
-        let unfit : fine j.refusal ≡ false = ap fine e.0 ∙ f in
-        record {
-          refusal = e.0 ∙ sym (first-refused s r back floor_refusal f);
-          floor = e.1 ∙ sym (pick-false (fine j.refusal) (floor_length (loop_of (read_form s).form)) 0 unfit);
-          part = e.2 ∙ sym (pick-false (fine j.refusal) (part_of (loop_of (read_form s).form)) part.None unfit);
-          cycle = alone-cycle _ j (λ k. omega arith) (λ k. omega (arith, ap part_number e.2)) e.3;
-        }
+-- its form's edges as they are lent
+pub lent-edges : (f : Form) (m : ℕ) (from to delays : List ℕ) (t : Timetable) → m ≡ f.header.edges → (from ≡ f.from) × (to ≡ f.to) × (delays ≡ f.delays) → WellFormed f → t ≡ times_of f → Lent f m from to delays t
+lent-edges f m from to delays t few tables w is = rw (few, tables.0, tables.1, tables.2) (lent-form f t w is)
 
-    pub record-floored : fine r.refusal ≡ true → FormFloored r.form j → RecordFloored s j
-    unfolding floor_record
-    record-floored f t = record {
-      refusal = t.refusal ∙ sym (first-asked s r back floor_refusal f);
-      floor = rw (← back) t.floor;
-      part = rw (← back) t.part;
-      cycle = rw (← back) t.cycle;
+-- refused by the reader
+pub record-refused : (s : List ℕ) (r : Refusal) → record_in (Err r) ≡ read_form s → RecordFloored s (floored_in (Err (record { refusal = r; cycle = None })))
+unfolding floor_record
+record-refused s r back =
+    let unfit : fine (Some r) ≡ false = refused_fine r in
+    let n : number_of (Some r) ≤ 10 = subst (λ (x : Record). number_of x.refusal ≤ 10) (sym back) (read-early s) in
+    record {
+      refusal = sym (first-refused s _ back floor_refusal unfit);
+      floor = sym (pick-false (fine (Some r)) (floor_length (loop_of (read_form s).form)) 0 unfit);
+      part = sym (pick-false (fine (Some r)) (part_of (loop_of (read_form s).form)) part.None unfit);
+      cycle = alone-cycle _ _ (λ k. omega arith) (λ k. let z : ◌≡◌ {A = ℕ} 0 3 = k in omega arith) refl;
     }
+
+-- or read
+pub record-floored : (s : List ℕ) (f : Form) (j : Floored) → record_in (Ok f) ≡ read_form s → FormFloored f j → RecordFloored s j
+unfolding floor_record
+record-floored s f j back t = record {
+  refusal = t.refusal ∙ sym (first-asked s _ back floor_refusal none_fine);
+  floor = rw (← back) t.floor;
+  part = rw (← back) t.part;
+  cycle = rw (← back) t.cycle;
+}

@@ -1,5 +1,7 @@
 -- What the proofs of the floor share: tables that are counted and compared one place more, and the system that they hold.
 -- Assumes nothing.
+use Rattle.std.specs.Prelude.{Result, Ok, Err, is_ok, IsSomeAnd}
+use Rattle.std.specs.Result.{result_err}
 use mathlib.Core.Path.{◌≡◌, refl, sym, ap, ◌∙◌}
 use mathlib.Core.Bool.{false}
 use mathlib.Core.List.{List}
@@ -9,39 +11,36 @@ use native.Mathlib.Numerals.{add-one}
 use native.Mathlib.Omega.{arith}
 use lib.Dec.{eqb}
 use lib.ListN.{get_or}
-use borrow.Author.Rules.{rules}
-use borrow.Author.Tests.{le-ltb, lt-ltb, le-leb, lt-leb, eq-eqb, ne_eqb}
-use Rattle.lists.specs.Pick.{pick, pick_true, pick-false}
+use borrow.Author.Tests.{eq-eqb, ne_eqb}
+use Rattle.lists.specs.Pick.{pick, pick_true, pick-false, both_ways}
 use Rattle.lists.specs.Span.{span}
 use Rattle.lists.specs.Fold.{count, count-snoc}
 use Rattle.lists.specs.Count.{count_same}
 use Rattle.lists.specs.Sums.{top-none, top-last, top-each}
 use Rattle.answer.specs.Outcome.{edges_of}
 use Rattle.answer.specs.Tally.{Tallies}
+use Rattle.answer.specs.declared.Cycle.{Cycle}
+use Rattle.form.specs.declared.Edges.{Edges}
 use Rattle.form.specs.declared.Form.{Form}
 use Rattle.form.specs.declared.Class.{Class}
 use Rattle.form.specs.Places.{no_class}
-use Rattle.system.specs.declared.Settled.{Settled}
+use Rattle.system.specs.Outcome.{Settled, settled_in}
 use Rattle.system.specs.Graph.{Joined}
 use Rattle.system.specs.System.{System, Losing, system_of}
 use Rattle.system.specs.Rounds.{settled_of}
 use Rattle.system.specs.Same.{Same, same-settled, same-losing}
-use Rattle.solve.specs.declared.Solution.{Solution}
-use Rattle.solve.specs.Solved.{Solved}
+use Rattle.solve.specs.Solved.{SolvedBy}
 use Rattle.form.specs.Hold.{hold}
 use Rattle.legal.specs.Loop.{Loop, Pair, graph_of, loop_of, ran_on}
 use Rattle.legal.specs.Systems.{knotted, paces}
 use Rattle.legal.specs.Shape.{sound-form}
 use Rattle.tables.specs.declared.Timetable.{Timetable}
-use Rattle.tables.specs.Edges.{Told}
+use Rattle.tables.specs.Edges.{ToldBy}
 use Rattle.tables.specs.Times.{Timed}
-use Rattle.tables.specs.Lent.{Lent, lent-ends}
+use Rattle.tables.specs.Lent.{Lent, LentBy, lent-ends}
 use Rattle.floor.specs.Parts.{nodes_on, units_part}
 use Rattle.floor.specs.Least.{enough}
-use Rattle.floor.specs.Tables.{how_many, Edged, Costed, Paced, Busy}
-
--- a definition's tests, settled from what a branch showed
-pub ruleset tests = (rules, le-ltb, lt-ltb, le-leb, lt-leb, eq-eqb, ne_eqb)
+use Rattle.floor.specs.Tables.{how_many, Edged, Costed, EdgedIn, PacedBy, held_in, Busy}
 
 -- a product, which omega takes as an unknown
 pub product : (a b m n : ℕ) → a ≤ m → b ≤ n → a * b ≤ m * n
@@ -113,60 +112,55 @@ module _ (g : Loop) where
 pub edged-bounds : (n m : ℕ) (from to delays : List ℕ) → Edged n m from to delays → (1 ≤ n) × (n ≤ 64) × (m ≤ 256)
 edged-bounds n m from to delays edged = (edged.ends.some, edged.ends.most, edged.ends.few)
 
-module _ (n m : ℕ) (from to delays : List ℕ) (edged : Edged n m from to delays) (l : ℕ) (gs cs : List ℕ) where
-  -- the system that the tables hold
-  abbrev held : System
-  held = system_of n m from to gs cs
-
-  pub held-joined : Joined held.graph
+module _ (n : ℕ) (e : Edges) (edged : EdgedIn n e) (gs cs : List ℕ) (s : System) (is : s ≡ held_in n e gs cs) where
+  pub held-joined : Joined s.graph
   unfolding system_of
-  held-joined = record { tails = edged.ends.tail-in; heads = edged.ends.head_in }
+  held-joined = rw is (record { tails = edged.ends.tail-in; heads = edged.ends.head_in })
 
-  module _ (gained : (e : ℕ) → e < m → get_or gs e 0 ≡ l * get_or delays e 0) (g : Loop) (told : Told g n m from to delays) (costed : Costed g m cs) where
+  module _ (l : ℕ) (gained : (i : ℕ) → i < e.count → get_or gs i 0 ≡ l * get_or e.delays.now i 0) (g : Loop) (told : ToldBy g n e) (costed : Costed g e.count cs) where
     -- it is the system of the length
-    held-paces : Same held (paces g l)
+    held-paces : Same s (paces g l)
     unfolding system_of paces
-    held-paces = record {
+    held-paces = rw is (record {
       nodes = sym told.all-nodes;
       edges = sym told.all_edges;
-      tail = λ e h. sym (told.is_tail e h);
-      head = λ e h. sym (told.is_head e h);
-      gain = λ e h. gained e h ∙ ap (λ (d : ℕ). l * d) (sym (told.is_delay e h));
+      tail = λ i h. sym (told.is_tail i h);
+      head = λ i h. sym (told.is_head i h);
+      gain = λ i h. gained i h ∙ ap (λ (d : ℕ). l * d) (sym (told.is_delay i h));
       cost = costed;
-    }
+    })
+
+    settled-alike : (settled_of s).settled ≡ enough g l
+    unfolding enough
+    settled-alike = ap (λ (x : Settled). x.settled) (same-settled s (paces g l) held-paces)
 
     -- settled, the length is enough
-    pub held-enough : (r : Settled) → r ≡ settled_of held → r.settled ≡ enough g l
-    unfolding enough
-    held-enough r is = ap (λ (x : Settled). x.settled) (is ∙ same-settled held (paces g l) held-paces)
+    pub held-enough : (r : Result (List ℕ) (List ℕ)) → settled_in r ≡ settled_of s → is_ok r ≡ enough g l
+    held-enough (Ok values) is = ap (λ (x : Settled). x.settled) is ∙ settled-alike
+    held-enough (Err values) is = ap (λ (x : Settled). x.settled) is ∙ settled-alike
 
     -- else a cycle loses
-    pub held-breaks : (r : Solution) → Solved held r → enough g l ≡ false → Losing (paces g l) (edges_of r.cycle) × Tallies r.cycle
-    unfolding enough
-    held-breaks r t q =
-        let unsettled : r.settled ≡ false = t.settled ∙ ap (λ (x : Settled). x.settled) (same-settled held (paces g l) held-paces) ∙ q in
-        (same-losing held (paces g l) held-paces _ (t.shortest unsettled).losing, t.tallies)
+    pub held-breaks : (r : Result (List ℕ) Cycle) → SolvedBy s r → enough g l ≡ false → IsSomeAnd (result_err r) (λ c. Losing (paces g l) (edges_of c) × Tallies c)
+    held-breaks (Ok values) t q = both_ways (sym (t.settled ∙ settled-alike)) q
+    held-breaks (Err cycle) t q = (same-losing s (paces g l) held-paces _ (t.shortest refl).losing, t.tallies)
 
 -- ---- the edges of a form
 
-all_edges : (f : Form) (m : ℕ) (from to delays : List ℕ) (t : Timetable) → Lent f m from to delays t → f.header.edges ≡ m
-unfolding loop_of graph_of
-all_edges f m from to delays t lent = lent.told.all_edges
+module _ (f : Form) (e : Edges) (t : Timetable) (lent : LentBy f e t) where
+  edge_in : (i : ℕ) → i < e.count → i < f.header.edges
+  unfolding loop_of graph_of
+  edge_in i l = omega (arith, lent.told.all_edges)
 
-module _ (f : Form) (m : ℕ) (from to delays : List ℕ) (t : Timetable) (lent : Lent f m from to delays t) where
-  pub lent-edged : Edged t.nodes m from to delays
+  pub lent-edged : EdgedIn t.nodes e
   unfolding loop_of
   lent-edged = record {
-    ends = lent-ends f m from to delays t lent;
-    short = λ e l. omega (arith, (lent.good.edge e (edge_in e l)).delays, lent.told.is_delay e l);
+    ends = lent-ends f _ _ _ _ t lent;
+    short = λ i l. omega (arith, (lent.good.edge i (edge_in i l)).delays, lent.told.is_delay i l);
   }
-    where
-      edge_in : (e : ℕ) → e < m → e < f.header.edges
-      edge_in e l = omega (arith, all_edges f m from to delays t lent)
 
   -- what the code reads as costs are the loop's
-  pub lent-costed : (cs : List ℕ) → ((e : ℕ) → e < m → get_or cs e 0 ≡ get_or t.latency (get_or from e 0) 0) → Costed (loop_of f) m cs
-  lent-costed cs is e l = is e l ∙ rw (lent.told.is_tail e l) (sym (lent.timed.takes _ ((lent-ends f m from to delays t lent).tail-in e l)))
+  pub lent-costed : (cs : List ℕ) → ((i : ℕ) → i < e.count → get_or cs i 0 ≡ get_or t.latency (get_or e.from.now i 0) 0) → Costed (loop_of f) e.count cs
+  lent-costed cs is i l = is i l ∙ rw (lent.told.is_tail i l) (sym (lent.timed.takes _ ((lent-ends f _ _ _ _ t lent).tail-in i l)))
 
-  pub lent-paced : (cs : List ℕ) → ((e : ℕ) → e < m → get_or cs e 0 ≡ get_or t.latency (get_or from e 0) 0) → knotted (loop_of f) ≡ false → Paced (loop_of f) t.nodes m from to delays cs
+  pub lent-paced : (cs : List ℕ) → ((i : ℕ) → i < e.count → get_or cs i 0 ≡ get_or t.latency (get_or e.from.now i 0) 0) → knotted (loop_of f) ≡ false → PacedBy (loop_of f) t.nodes e cs
   lent-paced cs is free = record { sound = sound-form f lent.good; free = free; told = lent.told; costed = lent-costed cs is }

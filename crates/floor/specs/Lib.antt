@@ -1,3 +1,4 @@
+pub mod Outcome
 pub mod Parts
 pub mod Busy
 pub mod Least

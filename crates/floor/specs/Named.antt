@@ -12,8 +12,8 @@ use Rattle.lists.specs.Sums.{top-each, top-under}
 use Rattle.lists.specs.First.{first_from, first-is, first-only}
 use Rattle.legal.specs.Loop.{Loop}
 use Rattle.legal.specs.Shape.{Sound}
-use Rattle.floor_part.specs.declared.Part.{Part}
-use Rattle.floor_part.specs.declared.Part.TheVariants as part
+use Rattle.floor_part.specs.Parts.{Part}
+use Rattle.floor_part.specs.Parts as part
 use Rattle.floor.specs.Parts.{latency_part, units_part, units_parts, cycle_part, floor_length}
 use Rattle.floor.specs.Least.{enough, cycle-one, cycle-below}
 use Rattle.floor.specs.Bounds.{latency-one}

@@ -3,11 +3,13 @@
 use Rattle.std.specs.Prelude.{◌≡◌, false, List, map, ℕ, ◌≤◌, ◌<◌, eqb, get_or}
 use Rattle.lists.specs.Span.{span}
 use Rattle.lists.specs.Fold.{count, top}
+use Rattle.system.specs.System.{System, system_of}
 use Rattle.legal.specs.Loop.{Loop, latency}
 use Rattle.legal.specs.Shape.{Sound}
 use Rattle.legal.specs.Systems.{knotted}
 use Rattle.tables.specs.Edges.{Ends, Told}
 use Rattle.floor.specs.Parts.{latency_part, units_part, floor_length}
+use Rattle.form.specs.declared.Edges.{Edges}
 
 -- how many of the first n numbers of a table are x
 unfoldable pub how_many : List ℕ → ℕ → ℕ → ℕ
@@ -28,6 +30,17 @@ pub record Paced (g : Loop) (nodes edges : ℕ) (from to delays costs : List ℕ
   pub free : knotted g ≡ false
   pub told : Told g nodes edges from to delays
   pub costed : Costed g edges costs
+
+-- the same of edges that are lent together
+abbrev pub EdgedIn : ℕ → Edges → Type 0
+EdgedIn nodes e = Edged nodes e.count e.from.now e.to.now e.delays.now
+
+abbrev pub PacedBy : Loop → ℕ → Edges → List ℕ → Type 0
+PacedBy g nodes e costs = Paced g nodes e.count e.from.now e.to.now e.delays.now costs
+
+-- the system that they hold, with what they gain and cost
+abbrev pub held_in : ℕ → Edges → List ℕ → List ℕ → System
+held_in nodes e gains costs = system_of nodes e.count e.from.now e.to.now gains costs
 
 -- of the first n classes the largest part (b), and the lowest class that it is of
 pub record Busy (g : Loop) (n part class : ℕ) : Type 0 where

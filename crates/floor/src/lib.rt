@@ -1,36 +1,37 @@
 // The floor: a length that no legal pair of the loop is shorter than, and what attains it.
 #![tactic(auto)]
 
-ghost use Rattle.std.specs.Prelude.{◌≡◌, false, ℕ, ◌+◌, ◌-◌, ◌*◌, ◌/◌, ◌≤◌, ◌<◌, max, get_or};
-ghost use Rattle.answer.specs.Outcome.{no_cycle, edges_of};
+ghost use Rattle.std.specs.Prelude.{◌≡◌, false, ℕ, ◌+◌, ◌-◌, ◌*◌, ◌/◌, ◌≤◌, ◌<◌, max, get_or, Ok, IsSomeAnd};
+ghost use Rattle.answer.specs.Outcome.{edges_of};
 ghost use Rattle.answer.specs.Tally.{Tallies};
 ghost use Rattle.form.specs.declared.Form.{Form};
 ghost use Rattle.form.specs.Ranges.{GoodClass};
 ghost use Rattle.system.specs.System.{Losing};
+ghost use Rattle.system.specs.Lent.{system_in};
 ghost use Rattle.form.specs.Hold.{hold};
 ghost use Rattle.legal.specs.Loop.{Loop, Pair, loop_of};
 ghost use Rattle.legal.specs.Systems.{knotted, paces};
-ghost use Rattle.tables.specs.Edges.{Told};
+ghost use Rattle.tables.specs.Edges.{ToldBy};
 ghost use Rattle.tables.specs.Times.{SoundTimes, Timed};
-ghost use Rattle.tables.specs.Lent.{Lent};
+ghost use Rattle.tables.specs.Lent.{LentBy};
 ghost use Rattle.floor.specs.Parts.{cycle_part};
 ghost use Rattle.floor.specs.Least.{enough};
-ghost use Rattle.floor.specs.Tables.{how_many, Edged, Costed, Paced, Busy, Measured};
+ghost use Rattle.floor.specs.Tables.{how_many, EdgedIn, held_in, Costed, PacedBy, Busy, Measured};
+ghost use Rattle.floor.specs.Outcome.{floored_in};
 ghost use Rattle.floor.specs.Floor.{FormFloored, RecordFloored};
 
-use answer::{Cycle, Refusal};
+use answer::{Cycle, Refused};
 use floor_part::Part;
-use form::Class;
+use form::{Class, Edges};
+use system::Constraints;
 use tables::Timetable;
 use widths::wide;
 
-// The floor and the part that attains it first; refused, 0 and no part.
+// The floor, and the part that attains it first.
 #[derive(Clone, Copy)]
-pub struct Floored {
-    pub refusal: Refusal,
+pub struct Attained {
     pub floor: u32,
     pub part: Part,
-    pub cycle: Cycle,
 }
 
 // The most steps that a class needs, and the lowest class that needs them.
@@ -47,15 +48,6 @@ struct AllParts {
     units: u16,
     class: u8,
     floor: u16,
-}
-
-fn larger(a: u16, b: u16) -> u16
-    ensures { result ≡ max a b }
-{
-    if a < b {
-        return b;
-    }
-    a
 }
 
 // How many nodes run on a class.
@@ -117,17 +109,15 @@ fn busiest_class(times: Timetable) -> Busiest
 }
 
 // What the edges cost: the latency of their tails.
-fn costs_of<'a>(edges: u16, from: &'a [u8; 256], latency: &'a [u8; 64]) -> [u16; 256]
+fn costs_of(edges: u16, from: &[u8; 256], latency: &[u8; 64]) -> [u16; 256]
     requires edges_bound { edges ≤ 256 }
     requires by_index { (e : ℕ) → e < edges → get_or from.now e 0 < 64 }
     ensures { (e : ℕ) → e < edges → get_or result e 0 ≡ get_or latency.now (get_or from.now e 0) 0 }
 {
     let mut costs = [0u16; 256];
-    let mut e: usize = 0;
-    while e < edges as usize {
+    for e in 0..edges as usize {
         let tail = from[e] as usize;
         costs[e] = wide(latency[tail]);
-        e += 1;
     }
     costs
 }
@@ -139,51 +129,51 @@ fn gains_of(edges: u16, delays: &[u8; 256], length: u16) -> [u16; 256]
     ensures { (e : ℕ) → e < edges → get_or result e 0 ≡ length * get_or delays.now e 0 }
 {
     let mut gains = [0u16; 256];
-    let mut e: usize = 0;
-    while e < edges as usize {
+    for e in 0..edges as usize {
         gains[e] = length * wide(delays[e]);
-        e += 1;
     }
     gains
 }
 
-// Whether no cycle has a latency sum above the length times its delay sum.
-fn is_enough<'a>(
+// The system of a length: its edges, what they gain at it, and what they cost.
+fn paced<'a>(
     nodes: u8,
-    edges: u16,
-    from: &'a [u8; 256],
-    to: &'a [u8; 256],
-    delays: &'a [u8; 256],
+    edges: Edges<'a>,
+    gains: &'a [u16; 256],
     costs: &'a [u16; 256],
-    length: u16,
-) -> bool
-    requires { Edged nodes edges from.now to.now delays.now × (length ≤ 512) }
-    ensures { (g : Loop) → Told g nodes edges from.now to.now delays.now → Costed g edges costs.now → result ≡ enough g length }
+) -> Constraints<'a>
+    ensures { (result.nodes ≡ nodes) × (result.edges ≡ edges.entry.count) × (system_in result ≡ held_in nodes edges.entry gains.now costs.now) }
 {
-    let gains = gains_of(edges, delays, length);
-    let result = system::settle(nodes, edges, from, to, &gains, costs);
-    result.settled
+    Constraints {
+        nodes,
+        edges: edges.count,
+        tails: edges.from,
+        heads: edges.to,
+        gains,
+        costs,
+    }
+}
+
+// Whether no cycle has a latency sum above the length times its delay sum.
+fn is_enough(nodes: u8, edges: Edges, costs: &[u16; 256], length: u16) -> bool
+    requires { EdgedIn nodes edges × (length ≤ 512) }
+    ensures { (g : Loop) → ToldBy g nodes edges.entry → Costed g edges.entry.count costs.now → result ≡ enough g length }
+{
+    let gains = gains_of(edges.count, edges.delays, length);
+    system::settle(paced(nodes, edges, &gains, costs)).is_ok()
 }
 
 // The least length that is enough, where a length that is not is known. Each turn halves the lengths left, 512 at most.
-fn least_over<'a>(
-    nodes: u8,
-    edges: u16,
-    from: &'a [u8; 256],
-    to: &'a [u8; 256],
-    delays: &'a [u8; 256],
-    costs: &'a [u16; 256],
-    known: u16,
-) -> u16
-    requires { Edged nodes edges from.now to.now delays.now × (known ≤ 512) }
-    ensures { (g : Loop) → Paced g nodes edges from.now to.now delays.now costs.now → enough g known ≡ false → result ≡ cycle_part g }
+fn least_over(nodes: u8, edges: Edges, costs: &[u16; 256], known: u16) -> u16
+    requires { EdgedIn nodes edges × (known ≤ 512) }
+    ensures { (g : Loop) → PacedBy g nodes edges.entry costs.now → enough g known ≡ false → result ≡ cycle_part g }
 {
     let mut short = known;
     // a length that is enough: 512 is for every loop without a knot
     let mut long: u16 = 512;
     while short + 1 < long {
         let middle = (short + long) / 2;
-        if is_enough(nodes, edges, from, to, delays, costs, middle) {
+        if is_enough(nodes, edges, costs, middle) {
             long = middle;
         } else {
             short = middle;
@@ -193,145 +183,81 @@ fn least_over<'a>(
 }
 
 // The larger of a length and (c). Mostly the length is enough, and the system is settled once.
-fn cycle_over<'a>(
-    nodes: u8,
-    edges: u16,
-    from: &'a [u8; 256],
-    to: &'a [u8; 256],
-    delays: &'a [u8; 256],
-    costs: &'a [u16; 256],
-    length: u16,
-) -> u16
-    requires { Edged nodes edges from.now to.now delays.now × (length ≤ 512) }
-    ensures { (g : Loop) → Paced g nodes edges from.now to.now delays.now costs.now → 1 ≤ length → result ≡ max length (cycle_part g) }
+fn cycle_over(nodes: u8, edges: Edges, costs: &[u16; 256], length: u16) -> u16
+    requires { EdgedIn nodes edges × (length ≤ 512) }
+    ensures { (g : Loop) → PacedBy g nodes edges.entry costs.now → 1 ≤ length → result ≡ max length (cycle_part g) }
 {
-    if is_enough(nodes, edges, from, to, delays, costs, length) {
+    if is_enough(nodes, edges, costs, length) {
         return length;
     }
-    least_over(nodes, edges, from, to, delays, costs, length)
+    least_over(nodes, edges, costs, length)
 }
 
-// A cycle whose latency sum is above the length times its delay sum.
-fn breaking_cycle<'a>(
-    nodes: u8,
-    edges: u16,
-    from: &'a [u8; 256],
-    to: &'a [u8; 256],
-    delays: &'a [u8; 256],
-    costs: &'a [u16; 256],
-    length: u16,
-) -> Cycle
-    requires { Edged nodes edges from.now to.now delays.now × (length ≤ 512) }
-    ensures { (g : Loop) → Told g nodes edges from.now to.now delays.now → Costed g edges costs.now → enough g length ≡ false → Losing (paces g length) (edges_of result) × Tallies result }
+// A cycle whose latency sum is above the length times its delay sum, if there is one.
+fn breaking_cycle(nodes: u8, edges: Edges, costs: &[u16; 256], length: u16) -> Option<Cycle>
+    requires { EdgedIn nodes edges × (length ≤ 512) }
+    ensures { (g : Loop) → ToldBy g nodes edges.entry → Costed g edges.entry.count costs.now → enough g length ≡ false → IsSomeAnd result (λ c. Losing (paces g length) (edges_of c) × Tallies c) }
 {
-    let gains = gains_of(edges, delays, length);
-    let solution = solve::solve(nodes, edges, from, to, &gains, costs);
-    solution.cycle
-}
-
-// An answer that no cycle stands beside.
-fn alone(refusal: Refusal, floor: u16, part: Part) -> Floored
-    ensures { (result.refusal ≡ refusal) × (result.floor ≡ floor) × (result.part ≡ part) × (result.cycle ≡ no_cycle) }
-{
-    Floored {
-        refusal,
-        floor: floor as u32,
-        part,
-        cycle: Cycle::none(),
-    }
+    let gains = gains_of(edges.count, edges.delays, length);
+    solve::solve(paced(nodes, edges, &gains, costs)).err()
 }
 
 // Parts (a) and (b) of a loop without a knot, and the floor: the larger of them where that is enough for every cycle.
-fn parts_of<'a>(
-    edges: u16,
-    from: &'a [u8; 256],
-    to: &'a [u8; 256],
-    delays: &'a [u8; 256],
-    costs: &'a [u16; 256],
-    times: Timetable,
-) -> AllParts
-    requires { Edged times.nodes edges from.now to.now delays.now × SoundTimes times }
-    ensures { (g : Loop) (p : Pair) → Paced g times.nodes edges from.now to.now delays.now costs.now → Timed g p times → Measured g result.latency result.units result.class result.floor }
+fn parts_of(edges: Edges, costs: &[u16; 256], times: Timetable) -> AllParts
+    requires { EdgedIn times.nodes edges × SoundTimes times }
+    ensures { (g : Loop) (p : Pair) → PacedBy g times.nodes edges.entry costs.now → Timed g p times → Measured g result.latency result.units result.class result.floor }
 {
     let latency = wide(tables::largest(&times.latency, times.nodes));
     let busiest = busiest_class(times);
-    let least = larger(latency, busiest.part);
+    let least = latency.max(busiest.part);
     AllParts {
         latency,
         units: busiest.part,
         class: busiest.class,
-        floor: cycle_over(times.nodes, edges, from, to, delays, costs, least),
+        floor: cycle_over(times.nodes, edges, costs, least),
     }
 }
 
 // The floor of a loop without a knot.
-fn free_floor<'a>(
-    edges: u16,
-    from: &'a [u8; 256],
-    to: &'a [u8; 256],
-    delays: &'a [u8; 256],
-    times: Timetable,
-) -> Floored
-    requires { (f : Form) × Lent f edges from.now to.now delays.now times × (knotted (loop_of f) ≡ false) }
-    ensures { (f : Form) → Lent f edges from.now to.now delays.now times → knotted (loop_of f) ≡ false → FormFloored f result }
+fn free_floor(edges: Edges, times: Timetable) -> Attained
+    requires { (f : Form) × LentBy f edges times × (knotted (loop_of f) ≡ false) }
+    ensures { (f : Form) → LentBy f edges.entry times → knotted (loop_of f) ≡ false → FormFloored f (floored_in (Ok result)) }
 {
-    let costs = costs_of(edges, from, &times.latency);
-    let parts = parts_of(edges, from, to, delays, &costs, times);
-    let floor = parts.floor;
-    if floor <= parts.latency {
-        return alone(Refusal::None, floor, Part::Latency);
+    let costs = costs_of(edges.count, edges.from, &times.latency);
+    let parts = parts_of(edges, &costs, times);
+    let floor = parts.floor as u32;
+    if parts.floor <= parts.latency {
+        return Attained {
+            floor,
+            part: Part::Latency,
+        };
     }
-    if floor <= parts.units {
-        return alone(Refusal::None, floor, Part::Units(parts.class as u32));
+    if parts.floor <= parts.units {
+        return Attained {
+            floor,
+            part: Part::Units(parts.class as u32),
+        };
     }
-    let short = floor - 1;
-    Floored {
-        refusal: Refusal::None,
-        floor: floor as u32,
-        part: Part::Cycle,
-        cycle: breaking_cycle(times.nodes, edges, from, to, delays, &costs, short),
+    let short = parts.floor - 1;
+    Attained {
+        floor,
+        part: Part::Cycle(breaking_cycle(times.nodes, edges, &costs, short).unwrap()),
     }
 }
 
 // The floor of a form, or its knot. Its edges are lent, and its timetable stands for the rest.
-pub fn floor_tables<'a>(
-    edges: u16,
-    from: &'a [u8; 256],
-    to: &'a [u8; 256],
-    delays: &'a [u8; 256],
-    times: Timetable,
-) -> Floored
-    requires { (f : Form) × Lent f edges from.now to.now delays.now times }
-    ensures { (f : Form) → Lent f edges from.now to.now delays.now times → FormFloored f result }
+pub fn floor_tables(edges: Edges, times: Timetable) -> Result<Attained, Refused>
+    requires { (f : Form) × LentBy f edges times }
+    ensures { (f : Form) → LentBy f edges.entry times → FormFloored f (floored_in result) }
 {
-    let knot = knots::knot_of(times.nodes, edges, from, to, delays);
-    let knotted = 0 < knot.count;
-    if knotted {
-        return Floored {
-            refusal: Refusal::Knot,
-            floor: 0,
-            part: Part::None,
-            cycle: knot,
-        };
-    }
-    free_floor(edges, from, to, delays, times)
+    knots::unknotted(times.nodes, edges)?;
+    Ok(free_floor(edges, times))
 }
 
 // The floor of a record, or what is refused of it: by the reader first.
-pub fn floor(record: &[u8]) -> Floored
-    ensures { RecordFloored «record».now result }
+pub fn floor(record: &[u8]) -> Result<Attained, Refused>
+    ensures { RecordFloored «record».now (floored_in result) }
 {
-    let read = reader::read(record);
-    let refusal = read.refusal;
-    if !refusal.is_fine() {
-        return alone(refusal, 0, Part::None);
-    }
-    let times = tables::times_of(read.form);
-    floor_tables(
-        read.form.header.edges,
-        &read.form.from,
-        &read.form.to,
-        &read.form.delays,
-        times,
-    )
+    let form = reader::read(record)?;
+    floor_tables(form.edges(), tables::times_of(form))
 }

@@ -1,8 +1,12 @@
 -- How an answer tells the part that attains the floor: its number, and its class.
 -- Assumes nothing.
 use Rattle.std.specs.Prelude.{ℕ}
-use Rattle.floor_part.specs.declared.Part.{Part}
-use Rattle.floor_part.specs.declared.Part.TheVariants as part
+use Rattle.answer.specs.declared.Cycle.{Cycle}
+use Rattle.answer.specs.Outcome.{no_cycle}
+use Rattle.floor_part.specs.declared.Part.{Part as Told}
+use Rattle.floor_part.specs.declared.Part.TheVariants as told
+use Rattle.floor_part.specs.Parts.{Part}
+use Rattle.floor_part.specs.Parts as part
 
 -- the part's number among the answers, and its class
 abbrev pub part_number : Part → ℕ
@@ -16,3 +20,14 @@ part_class part.None = 0
 part_class part.Latency = 0
 part_class (part.Units c) = c
 part_class part.Cycle = 0
+
+-- a part that is told, without its cycle, and the cycle, if it is one
+abbrev pub kind_of : Told → Part
+kind_of told.Latency = part.Latency
+kind_of (told.Units c) = part.Units c
+kind_of (told.Cycle c) = part.Cycle
+
+abbrev pub part_cycle : Told → Cycle
+part_cycle told.Latency = no_cycle
+part_cycle (told.Units c) = no_cycle
+part_cycle (told.Cycle c) = c

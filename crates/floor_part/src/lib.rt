@@ -2,37 +2,48 @@
 #![tactic(auto)]
 
 ghost use Rattle.std.specs.Prelude.{◌≡◌};
-ghost use Rattle.floor_part.specs.Numbers.{part_number, part_class};
+ghost use Rattle.answer.specs.Outcome.{cycle_or};
+ghost use Rattle.floor_part.specs.Numbers.{kind_of, part_number, part_class, part_cycle};
 
-// What attains the floor: the largest latency, the busy steps of a class, or a cycle. `None`: nothing was worked out.
+use answer::Cycle;
+
+// What attains the floor: the largest latency, the busy steps of a class, or a cycle.
 #[derive(Clone, Copy)]
 pub enum Part {
-    None,
     Latency,
     Units(u32),
-    Cycle,
+    Cycle(Cycle),
 }
 
 // The part's number among the answers.
 pub fn part_number(part: Part) -> u32
-    ensures { result ≡ part_number part }
+    ensures { result ≡ part_number (kind_of part) }
 {
     match part {
-        Part::None => 0,
         Part::Latency => 1,
         Part::Units(_) => 2,
-        Part::Cycle => 3,
+        Part::Cycle(_) => 3,
     }
 }
 
 // The class of a part that has one, else 0.
 pub fn part_class(part: Part) -> u32
-    ensures { result ≡ part_class part }
+    ensures { result ≡ part_class (kind_of part) }
 {
     match part {
-        Part::None => 0,
         Part::Latency => 0,
         Part::Units(class) => class,
-        Part::Cycle => 0,
+        Part::Cycle(_) => 0,
+    }
+}
+
+// The cycle of a part that is one.
+pub fn part_cycle(part: Part) -> Option<Cycle>
+    ensures { cycle_or result ≡ part_cycle part }
+{
+    match part {
+        Part::Latency => None,
+        Part::Units(_) => None,
+        Part::Cycle(cycle) => Some(cycle),
     }
 }

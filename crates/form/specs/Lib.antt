@@ -1,3 +1,4 @@
+pub mod Outcome
 pub mod Places
 pub mod Offsets
 pub mod Adding

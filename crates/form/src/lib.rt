@@ -4,6 +4,7 @@
 ghost use Rattle.std.specs.Prelude.{◌≡◌};
 ghost use Rattle.form.specs.Places.{empty_form};
 ghost use Rattle.form.specs.Hold.{hold};
+ghost use Rattle.form.specs.Outcome.{added_of};
 ghost use Rattle.form.specs.Adding.{class_added, node_added, edge_added};
 
 use answer::Refusal;
@@ -64,11 +65,13 @@ pub struct Form {
     pub retiming: [u8; 64],
 }
 
-// A form after an addition; `refusal` says whether it was taken.
+// The edges of a loop, lent together: edge e is in place e of each table, for e below the count.
 #[derive(Clone, Copy)]
-pub struct Added {
-    pub form: Form,
-    pub refusal: Refusal,
+pub struct Edges<'a> {
+    pub count: u16,
+    pub from: &'a [u8; 256],
+    pub to: &'a [u8; 256],
+    pub delays: &'a [u8; 256],
 }
 
 impl Form {
@@ -100,61 +103,59 @@ impl Form {
         }
     }
 
+    // The edges, lent together.
+    pub fn edges(&self) -> Edges<'_>
+        ensures count { result.count ≡ self.now.header.edges }
+        ensures tables { (result.from.now ≡ self.now.from) × (result.to.now ≡ self.now.to) × (result.delays.now ≡ self.now.delays) }
+    {
+        Edges {
+            count: self.header.edges,
+            from: &self.from,
+            to: &self.to,
+            delays: &self.delays,
+        }
+    }
+
     // One class more at the end of the table, or Count where there is no place.
-    pub fn add_class(mut self, class: Class) -> Added
-        ensures { result ≡ class_added self class }
+    pub fn add_class(mut self, class: Class) -> Result<Self, Refusal>
+        ensures { added_of self result ≡ class_added self class }
     {
         let classes = self.header.classes;
         let full = 4 <= classes;
         if full {
-            return Added {
-                form: self,
-                refusal: Refusal::Count(0),
-            };
+            return Err(Refusal::Count(0));
         }
         let at = classes as usize;
         self.class[at] = class;
         self.header.classes = classes + 1;
         self.header.length = 0; // a schedule is of the loop as it was
-        Added {
-            form: self,
-            refusal: Refusal::None,
-        }
+        Ok(self)
     }
 
     // One node more at the end of the table, or Count where there is no place.
-    pub fn add_node(mut self, node: Node) -> Added
-        ensures { result ≡ node_added self node }
+    pub fn add_node(mut self, node: Node) -> Result<Self, Refusal>
+        ensures { added_of self result ≡ node_added self node }
     {
         let nodes = self.header.nodes;
         let full = 64 <= nodes;
         if full {
-            return Added {
-                form: self,
-                refusal: Refusal::Count(0),
-            };
+            return Err(Refusal::Count(0));
         }
         let at = nodes as usize;
         self.node[at] = node;
         self.header.nodes = nodes + 1;
         self.header.length = 0;
-        Added {
-            form: self,
-            refusal: Refusal::None,
-        }
+        Ok(self)
     }
 
     // One edge more at the end of the tables, or Count where there is no place.
-    pub fn add_edge(mut self, edge: Edge) -> Added
-        ensures { result ≡ edge_added self edge }
+    pub fn add_edge(mut self, edge: Edge) -> Result<Self, Refusal>
+        ensures { added_of self result ≡ edge_added self edge }
     {
         let edges = self.header.edges;
         let full = 256 <= edges;
         if full {
-            return Added {
-                form: self,
-                refusal: Refusal::Count(0),
-            };
+            return Err(Refusal::Count(0));
         }
         let at = edges as usize;
         self.from[at] = edge.from;
@@ -162,10 +163,7 @@ impl Form {
         self.delays[at] = edge.delays;
         self.header.edges = edges + 1;
         self.header.length = 0;
-        Added {
-            form: self,
-            refusal: Refusal::None,
-        }
+        Ok(self)
     }
 }
 

@@ -1,6 +1,6 @@
 -- The first late edge into a node, by the links between the edges into it.
 -- Assumes nothing.
-use Rattle.std.specs.Prelude.{◌≡◌, Bool, ◌&&◌, ◌||◌, not, List, ltb, get_or}
+use Rattle.std.specs.Prelude.{◌≡◌, Bool, ◌&&◌, ◌||◌, not, List, ltb, get_or, Option, None, Some}
 use Rattle.std.proofs.Math.Path.{refl}
 use Rattle.std.proofs.Common.{◌∙◌, ap}
 use Rattle.std.proofs.Math.Bool.{true, false}
@@ -14,6 +14,7 @@ use Rattle.links.specs.Chains.{first_with, has_key}
 use Rattle.form.specs.declared.Operation.{Operation}
 use Rattle.legal.specs.Loop.{Loop, Pair}
 use Rattle.machine.specs.Run.{iteration, late, late_edge}
+use Rattle.operands.specs.declared.Inputs.{Inputs}
 use Rattle.operands.specs.Tables.{Tells, Follows}
 
 -- what an edge from node u with d delays hands to iteration i is not there in run step t: not issued, or not finished
@@ -83,4 +84,8 @@ module _ (g : Loop) (p : Pair) (starts : List ℕ) (k : ℕ) (finish : List ℕ)
 pub record FirstLate (first nodes edges i t : ℕ) (tails delays next finish : List ℕ) (e : ℕ) : Type 0 where
   pub is_first : (g : Loop) (p : Pair) (starts : List ℕ) (k v : ℕ) (o : Operation) → Tells g nodes edges tails delays → Follows g v o first next → iteration g p starts k t v ≡ i
       → e ≡ late_edge g p starts k finish t v
-  pub within : e ≤ edges
+
+-- the first late one of the edges that are lent, if one is
+abbrev pub LateIn : Inputs → ℕ → ℕ → ℕ → List ℕ → Option ℕ → Type 0
+LateIn x first i t finish None = FirstLate first x.nodes x.edges i t x.from.now x.delays.now x.next.now finish x.edges
+LateIn x first i t finish (Some e) = (e < x.edges) × FirstLate first x.nodes x.edges i t x.from.now x.delays.now x.next.now finish e

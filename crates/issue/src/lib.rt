@@ -2,27 +2,38 @@
 #![tactic(auto)]
 
 ghost use Rattle.std.specs.Prelude.{◌≡◌, ◌+◌, ◌*◌, ◌≤◌, ◌<◌, length};
-ghost use Rattle.lists.specs.First.{first_from};
-ghost use Rattle.operands.specs.Tables.{TailsLinked};
-ghost use Rattle.issue.specs.Issue.{Issuable, IssueMade};
-ghost use Rattle.issue.specs.Late.{missing, FirstLate};
-ghost use Rattle.issue.specs.Tables.{is_free_at};
+ghost use Rattle.answer.specs.Outcome.{refusal_in};
+ghost use Rattle.operands.specs.Tables.{LinkedIn};
+ghost use Rattle.issue.specs.Issue.{IssuableBy, MadeBy};
+ghost use Rattle.issue.specs.Late.{missing, LateIn};
+ghost use Rattle.issue.specs.Tables.{FirstFree};
 
 use answer::Refusal;
 use form::{Class, Operation, hold_of};
 use machine::{Iteration, RunStep};
+use operands::Inputs;
 
-// The first unit of a class that is free in a run step, or the number of its units.
-fn free_unit(free: &[u32; 32], number: u8, units: u8, step: RunStep) -> u8
+// A node as it is issued: its operation, the class that it runs on, and the first edge into it.
+#[derive(Clone, Copy)]
+pub struct Task {
+    pub node: u8,
+    pub operation: Operation,
+    pub runs_on: u8,
+    pub class: Class,
+    pub first: u16,
+}
+
+// The first unit of a class that is free in a run step.
+fn free_unit(free: &[u32; 32], number: u8, units: u8, step: RunStep) -> Option<u8>
     requires { (number < 4) × (units ≤ 8) }
-    ensures { result ≡ first_from (is_free_at free.now number step.0) units 0 }
+    ensures { FirstFree free.now number units step.0 result }
 {
     for x in 0..units {
         if free[8 * number as usize + x as usize] <= step.0 {
-            return x;
+            return Some(x);
         }
     }
-    units
+    None
 }
 
 // Whether what an edge hands to an iteration is not there in a run step: not issued, or not finished.
@@ -49,72 +60,67 @@ fn is_late(
     step.0 < done
 }
 
-// The first edge into a node whose operand is not there, by the links from `first` on; the number of edges where none is late.
+// The first edge into a node whose operand is not there, by the links from `first` on.
 fn late_edge<'a>(
     first: u16,
-    nodes: u8,
-    edges: u16,
+    inputs: Inputs<'a>,
     iteration: Iteration,
     step: RunStep,
-    from: &'a [u8; 256],
-    delays: &'a [u8; 256],
-    next: &'a [u16; 256],
     finish: &'a [u32],
-) -> u16
-    requires { TailsLinked nodes edges from.now delays.now next.now × (first ≤ edges) × (iteration.0 * nodes + nodes ≤ length finish.now) }
-    ensures { FirstLate first nodes edges iteration.0 step.0 from.now delays.now next.now finish.now result }
+) -> Option<u16>
+    requires { LinkedIn inputs × (first ≤ inputs.edges) × (iteration.0 * inputs.nodes + inputs.nodes ≤ length finish.now) }
+    ensures { LateIn inputs.entry first iteration.0 step.0 finish.now result }
 {
     let mut e = first;
-    while e < edges {
+    // the links are followed, and no index is counted
+    while e < inputs.edges {
         let i = e as usize;
-        if is_late(from[i], delays[i], nodes, iteration, step, finish) {
-            return e;
+        if is_late(
+            inputs.from[i],
+            inputs.delays[i],
+            inputs.nodes,
+            iteration,
+            step,
+            finish,
+        ) {
+            return Some(e);
         }
-        e = next[i];
+        e = inputs.next[i];
     }
-    edges
+    None
 }
 
 // A node in a run step: Early, else Busy, else its value and its finish step are written, and its unit is free when it lets go of it.
 pub fn issue<'a>(
-    node: u8,
-    operation: Operation,
-    number: u8,
-    class: Class,
-    first: u16,
-    nodes: u8,
-    edges: u16,
+    task: Task,
+    inputs: Inputs<'a>,
     iteration: Iteration,
     step: RunStep,
-    from: &'a [u8; 256],
-    delays: &'a [u8; 256],
-    next: &'a [u16; 256],
     starts: &'a [u32],
     values: &mut [u32],
     finish: &mut [u32],
     free: &mut [u32; 32],
-) -> Refusal
-    requires { Issuable node operation number class first nodes edges iteration.0 step.0 from.now delays.now next.now starts.now values.old finish.old free.old }
-    ensures { IssueMade node operation number class first nodes edges iteration.0 step.0
-        from.now delays.now next.now starts.now values.old finish.old free.old
-        values.new finish.new free.new result }
+) -> Result<(), Refusal>
+    requires { IssuableBy task inputs iteration.0 step.0 starts.now values.old finish.old free.old }
+    ensures { MadeBy task inputs.entry iteration.0 step.0 starts.now values.old finish.old free.old values.new finish.new free.new (refusal_in result) }
 {
-    let late = late_edge(
-        first, nodes, edges, iteration, step, from, delays, next, finish,
-    );
-    if late < edges {
-        return Refusal::Early(step.0, node as u32, late as u32);
+    if let Some(late) = late_edge(task.first, inputs, iteration, step, finish) {
+        return Err(Refusal::Early(step.0, task.node as u32, late as u32));
     }
-    let unit = free_unit(free, number, class.units, step);
-    if class.units <= unit {
-        return Refusal::Busy(step.0, node as u32, number as u32);
-    }
+    let Some(unit) = free_unit(free, task.runs_on, task.class.units, step) else {
+        return Err(Refusal::Busy(step.0, task.node as u32, task.runs_on as u32));
+    };
     let value = operands::value_of(
-        operation, first, nodes, edges, iteration, from, delays, next, starts, values,
+        task.operation,
+        task.first,
+        inputs,
+        iteration,
+        starts,
+        values,
     );
-    let place = iteration.0 as usize * nodes as usize + node as usize;
+    let place = iteration.0 as usize * inputs.nodes as usize + task.node as usize;
     values[place] = value;
-    finish[place] = step.0 + class.latency as u32;
-    free[8 * number as usize + unit as usize] = step.0 + hold_of(class) as u32;
-    Refusal::None
+    finish[place] = step.0 + task.class.latency as u32;
+    free[8 * task.runs_on as usize + unit as usize] = step.0 + hold_of(task.class) as u32;
+    Ok(())
 }

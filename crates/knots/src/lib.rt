@@ -1,65 +1,46 @@
 // Whether a loop has a knot, a cycle of edges with delay sum 0, and one with the fewest edges.
 #![tactic(auto)]
 
-ghost use Rattle.std.specs.Prelude.{◌≡◌, ℕ, ◌*◌, ◌≤◌, ◌<◌, get_or};
+ghost use Rattle.std.specs.Prelude.{◌<◌, IfErr};
 ghost use Rattle.legal.specs.Loop.{Loop};
-ghost use Rattle.tables.specs.Edges.{Ends, Told};
-ghost use Rattle.knots.specs.Found.{KnotFound, RanksFound};
+ghost use Rattle.tables.specs.Edges.{EndsIn, ToldBy};
+ghost use Rattle.knots.specs.Outcome.{ranking_in};
+ghost use Rattle.knots.specs.Found.{RanksFound, Untied};
 
-use answer::Cycle;
-use widths::wide;
+use answer::{Cycle, Refusal, Refused};
+use form::Edges;
+use system::Constraints;
 
-// A knot, or no cycle and then a rank for each node: nodes in their order never read a later one of the same iteration.
-#[derive(Clone, Copy)]
-pub struct Ranking {
-    pub cycle: Cycle,
-    pub rank: [u32; 64],
-}
-
-// What the edges gain: a delay more than any cycle costs, which is 1 for each of 64 edges at most.
-fn gains_of(edges: u16, delays: &[u8; 256]) -> [u16; 256]
-    requires { edges ≤ 256 }
-    ensures { (e : ℕ) → e < edges → get_or result e 0 ≡ 64 * get_or delays.now e 0 }
+// Ranks that rise along every edge of delay 0, or a knot where the loop has one.
+pub fn ranked(nodes: u8, edges: Edges) -> Result<[u32; 64], Cycle>
+    requires { EndsIn nodes edges }
+    ensures found { (g : Loop) → ToldBy g nodes edges.entry → RanksFound g (ranking_in g result) }
+    ensures some { IfErr result (λ knot. 0 < knot.count) }
 {
-    let mut gains = [0u16; 256];
-    let mut e: usize = 0;
-    while e < edges as usize {
-        gains[e] = 64 * wide(delays[e]);
-        e += 1;
-    }
-    gains
-}
-
-// A knot where the loop has one; else no cycle, and ranks that rise along every edge of delay 0.
-pub fn ranked<'a>(
-    nodes: u8,
-    edges: u16,
-    from: &'a [u8; 256],
-    to: &'a [u8; 256],
-    delays: &'a [u8; 256],
-) -> Ranking
-    requires { Ends nodes edges from.now to.now }
-    ensures { (g : Loop) → Told g nodes edges from.now to.now delays.now → RanksFound g result }
-{
-    let gains = gains_of(edges, delays);
+    // a delay gains more than any cycle costs, which is 1 for each of 64 edges at most
+    let gains = edges.delays.map(|delay| 64 * u16::from(delay));
     let costs = [1u16; 256];
-    let solution = solve::solve(nodes, edges, from, to, &gains, &costs);
-    let cycle = solution.cycle;
-    let rank = solution.values;
-    Ranking { cycle, rank }
+    let system = Constraints {
+        nodes,
+        edges: edges.count,
+        tails: edges.from,
+        heads: edges.to,
+        gains: &gains,
+        costs: &costs,
+    };
+    solve::solve(system)
 }
 
-// No cycle where the loop has no knot, else a knot.
-pub fn knot_of<'a>(
-    nodes: u8,
-    edges: u16,
-    from: &'a [u8; 256],
-    to: &'a [u8; 256],
-    delays: &'a [u8; 256],
-) -> Cycle
-    requires { Ends nodes edges from.now to.now }
-    ensures { (g : Loop) → Told g nodes edges from.now to.now delays.now → KnotFound g result }
+// Refused with Knot and a knot where the loop has one.
+pub fn unknotted(nodes: u8, edges: Edges) -> Result<(), Refused>
+    requires { EndsIn nodes edges }
+    ensures { (g : Loop) → ToldBy g nodes edges.entry → Untied g result }
 {
-    let ranking = ranked(nodes, edges, from, to, delays);
-    ranking.cycle
+    match ranked(nodes, edges) {
+        Ok(_) => Ok(()),
+        Err(knot) => Err(Refused {
+            refusal: Refusal::Knot,
+            cycle: Some(knot),
+        }),
+    }
 }

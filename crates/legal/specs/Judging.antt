@@ -1,10 +1,10 @@
 -- What the judge refuses of a form: Bare, Knot, Dependence with the lowest edge, Units with the lowest step and then class.
 -- Assumes nothing.
-use Rattle.std.specs.Prelude.{Bool, ℕ, ◌+◌, ◌*◌, eqb, leb, ltb}
+use Rattle.std.specs.Prelude.{Bool, ℕ, ◌+◌, ◌*◌, eqb, leb, ltb, None, Some}
 use Rattle.lists.specs.Pick.{pick}
 use Rattle.lists.specs.First.{first_from}
-use Rattle.answer.specs.declared.Refusal.{Refusal}
-use Rattle.answer.specs.declared.Refusal.TheVariants.{None, Bare, Knot, Dependence, Units}
+use Rattle.answer.specs.Refused.{Verdict}
+use Rattle.answer.specs.declared.Refusal.TheVariants.{Bare, Knot, Dependence, Units}
 use Rattle.form.specs.declared.Form.{Form}
 use Rattle.legal.specs.Loop.{Loop, Pair, loop_of, pair_of}
 use Rattle.legal.specs.Legal.{finish, busy}
@@ -34,13 +34,13 @@ module _ (g : Loop) (p : Pair) where
   over_step = first_from (λ q. ltb (over_class q) g.classes) p.length 1
 
   -- the unit rule alone
-  unfoldable pub units_of : Refusal
-  units_of = pick (leb over_step p.length) (Units over_step (over_class over_step)) None
+  unfoldable pub units_of : Verdict
+  units_of = pick (leb over_step p.length) (Some (Units over_step (over_class over_step))) None
 
   -- the edge rule, then the unit rule
-  unfoldable pub rules_of : Refusal
-  rules_of = pick (ltb broken_edge g.graph.edges) (Dependence broken_edge) units_of
+  unfoldable pub rules_of : Verdict
+  rules_of = pick (ltb broken_edge g.graph.edges) (Some (Dependence broken_edge)) units_of
 
-unfoldable pub judge_of : Form → Refusal
+unfoldable pub judge_of : Form → Verdict
 judge_of f =
-    pick (eqb f.header.length 0) Bare (pick (knotted (loop_of f)) Knot (rules_of (loop_of f) (pair_of f)))
+    pick (eqb f.header.length 0) (Some Bare) (pick (knotted (loop_of f)) (Some Knot) (rules_of (loop_of f) (pair_of f)))

@@ -1,6 +1,6 @@
 -- What the rules refuse of a pair: the lowest edge that breaks the edge rule, else the lowest step, and of it the lowest class, that breaks the unit rule.
 -- Assumes nothing.
-use Rattle.std.specs.Prelude.{◌≡◌, Bool, true, false, ℕ, ◌+◌, ◌≤◌, ◌<◌, leb, ltb}
+use Rattle.std.specs.Prelude.{◌≡◌, Bool, true, false, ℕ, ◌+◌, ◌≤◌, ◌<◌, leb, ltb, None, Some}
 use Rattle.std.proofs.Common.{◌∙◌, lt_of_not-le}
 use Rattle.std.proofs.Math.Path.{ap}
 use native.Mathlib.Omega.{arith}
@@ -8,8 +8,8 @@ use Rattle.std.proofs.Math.Nat.{not-le_of_lt}
 use borrow.Author.Tests.{ltb-true, ltb-false, leb-true, leb-false, lt-ltb, le-ltb, le-leb, lt-leb}
 use Rattle.lists.specs.Pick.{pick_ind, pick_true, pick-false}
 use Rattle.lists.specs.First.{First, first-is, first-only, first_past}
-use Rattle.answer.specs.declared.Refusal.{Refusal}
-use Rattle.answer.specs.declared.Refusal.TheVariants.{None, Dependence, Units}
+use Rattle.answer.specs.Refused.{Verdict}
+use Rattle.answer.specs.declared.Refusal.TheVariants.{Dependence, Units}
 use Rattle.legal.specs.Loop.{Loop, Pair}
 use Rattle.legal.specs.Legal.{EdgeRule, UnitRule, busy}
 use Rattle.legal.specs.Limits.{EdgeRules}
@@ -32,9 +32,9 @@ module _ (g : Loop) (p : Pair) where
     pub before : (k d : ℕ) → 1 ≤ k → k < q → d < g.classes → busy g p d k ≤ (g.class d).units
 
   -- the refusals of the rules, and when each is made
-  pub data Ruled : Refusal → Type 0 where
-    dependence : (e : ℕ) → LowestEdge e → Ruled (Dependence e)
-    units : EdgeRules g p → (q c : ℕ) → LowestOver q c → Ruled (Units q c)
+  pub data Ruled : Verdict → Type 0 where
+    dependence : (e : ℕ) → LowestEdge e → Ruled (Some (Dependence e))
+    units : EdgeRules g p → (q c : ℕ) → LowestOver q c → Ruled (Some (Units q c))
     kept : EdgeRules g p → UnitRule g p → Ruled None
 
   -- ---- the edge rule
@@ -159,7 +159,7 @@ module _ (g : Loop) (p : Pair) where
   units-told : EdgeRules g p → Ruled (units_of g p)
   unfolding units_of
   units-told h =
-      pick_ind Ruled (leb (over_step g p) p.length) (Units (over_step g p) (over_class g p (over_step g p))) None
+      pick_ind Ruled (leb (over_step g p) p.length) (Some (Units (over_step g p) (over_class g p (over_step g p)))) None
       (λ t. units h _ _ (over-lowest (leb-true _ _ t)))
       (λ t. kept h (over_none (leb-false _ _ t)))
 
@@ -167,32 +167,32 @@ module _ (g : Loop) (p : Pair) where
   pub ruled : Ruled (rules_of g p)
   unfolding rules_of
   ruled =
-      pick_ind Ruled (ltb (broken_edge g p) g.graph.edges) (Dependence (broken_edge g p)) (units_of g p)
+      pick_ind Ruled (ltb (broken_edge g p) g.graph.edges) (Some (Dependence (broken_edge g p))) (units_of g p)
       (λ t. dependence _ (broken-lowest (ltb-true _ _ t)))
       (λ t. units-told (broken-none (ltb-false _ _ t)))
 
   rules-units : EdgeRules g p → rules_of g p ≡ units_of g p
   unfolding rules_of
   rules-units h =
-      pick-false (ltb (broken_edge g p) g.graph.edges) (Dependence (broken_edge g p)) (units_of g p)
+      pick-false (ltb (broken_edge g p) g.graph.edges) (Some (Dependence (broken_edge g p))) (units_of g p)
       (le-ltb (broken_edge g p) g.graph.edges (omega (arith, kept-broken h)))
 
   -- and what is so they answer
-  pub ruled-is : (r : Refusal) → Ruled r → rules_of g p ≡ r
+  pub ruled-is : (r : Verdict) → Ruled r → rules_of g p ≡ r
   unfolding rules_of units_of
   ruled-is r (dependence e t) =
       let is : broken_edge g p ≡ e = lowest-broken e t in
-      pick_true (ltb (broken_edge g p) g.graph.edges) (Dependence (broken_edge g p)) (units_of g p)
+      pick_true (ltb (broken_edge g p) g.graph.edges) (Some (Dependence (broken_edge g p))) (units_of g p)
       (lt-ltb (broken_edge g p) g.graph.edges (omega (arith, t.edge)))
-      ∙ ap Dependence is
+      ∙ ap (λ (x0 : ℕ). Some (Dependence x0)) is
   ruled-is r (units h q c t) =
       let is = lowest-over q c t in
       rules-units h
-      ∙ pick_true (leb (over_step g p) p.length) (Units (over_step g p) (over_class g p (over_step g p))) None
+      ∙ pick_true (leb (over_step g p) p.length) (Some (Units (over_step g p) (over_class g p (over_step g p)))) None
       (le-leb (over_step g p) p.length (omega (arith, t.ends, is.0)))
-      ∙ ap (λ (k : ℕ). Units k (over_class g p k)) is.0
-      ∙ ap (Units q) is.1
+      ∙ ap (λ (k : ℕ). (Some (Units k (over_class g p k)))) is.0
+      ∙ ap (λ (x0 : ℕ). Some (Units q x0)) is.1
   ruled-is r (kept h u) =
       rules-units h
-      ∙ pick-false (leb (over_step g p) p.length) (Units (over_step g p) (over_class g p (over_step g p))) None
+      ∙ pick-false (leb (over_step g p) p.length) (Some (Units (over_step g p) (over_class g p (over_step g p)))) None
       (lt-leb (over_step g p) p.length (omega (arith, kept-over u)))

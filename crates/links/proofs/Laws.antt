@@ -1,24 +1,20 @@
--- A table of one number, and chains of the edges from some edge on.
+-- Chains of the edges from some edge on.
 -- Assumes nothing.
 use mathlib.Core.Path.{◌≡◌, refl, sym, ◌∙◌}
 use mathlib.Core.Logic.{◌⊎◌, inl, inr}
 use mathlib.Core.List.{List}
-use Prim.Native.Nat.{ℕ, zero, suc, ◌+◌, ◌-◌, ◌≤◌, ◌<◌}
+use Prim.Native.Nat.{ℕ, suc, ◌+◌, ◌-◌, ◌≤◌, ◌<◌}
 use native.Mathlib.Omega.{arith}
 use native.Mathlib.Decide.{ℕ_discrete}
-use native.Mathlib.Nat.{sub-zero, not-suc-le-zero, le_of_suc-le-suc, eq-or-lt_of_le}
+use native.Mathlib.Nat.{eq-or-lt_of_le}
 use lib.Dec.{eqb}
 use lib.ListN.{length, get_or, set, replicate, length-set}
 use lib.Seq.{get_or-set_same, get_or-set_other}
+use Rattle.std.proofs.lemmas.List.{get_or-replicate}
 use borrow.Author.Tests.{eq-eqb, ne_eqb}
 use Rattle.lists.specs.Pick.{pick}
 use Rattle.lists.specs.First.{first_from}
-use Rattle.links.specs.Chains.{first_with, Linked}
-
-pub same_at : (n x k : ℕ) → k < n → get_or (replicate n x) k 0 ≡ x
-same_at zero x k l = absurd (not-suc-le-zero l)
-same_at (suc n) x zero l = refl
-same_at (suc n) x (suc k) l = same_at n x k (le_of_suc-le-suc l)
+use Rattle.links.specs.Chains.{first_with}
 
 -- the edges from e on are linked
 pub record LinkedFrom (key : ℕ → ℕ) (edges e : ℕ) (first next : List ℕ) : Type 0 where
@@ -29,12 +25,18 @@ pub record LinkedFrom (key : ℕ → ℕ) (edges e : ℕ) (first next : List ℕ
   pub past : (d : ℕ) → edges ≤ d → d < 256 → get_or next d 0 ≡ edges
 
 module _ (key : ℕ → ℕ) (edges : ℕ) where
-  pub linked-none : (first next : List ℕ) → length first ≡ 64 → length next ≡ 256 → ((k : ℕ) → k < 64 → get_or first k 0 ≡ edges)
-      → ((d : ℕ) → d < 256 → get_or next d 0 ≡ edges) → LinkedFrom key edges edges first next
+  -- before any edge is linked the number of edges stands at each place
+  pub linked-none : LinkedFrom key edges edges (replicate 64 edges) (replicate 256 edges)
   unfolding first_from
-  linked-none first next a b h q =
+  linked-none =
       let none : edges - edges ≡ 0 = omega arith in
-      record { first_long = a; next_long = b; firsts = λ k l. rw none (h k l); nexts = λ d l m. absurd (omega arith); past = λ d l m. q d m }
+      record {
+        first_long = refl;
+        next_long = refl;
+        firsts = λ k l. rw none (get_or-replicate 64 k edges 0 l);
+        nexts = λ d l m. absurd (omega arith);
+        past = λ d l m. get_or-replicate 256 d edges 0 m;
+      }
 
   -- one edge more is the first with its key, and leads to the one that was first
   pub linked-more : (e : ℕ) (first next : List ℕ) → e < edges → edges ≤ 256 → key e < 64 → LinkedFrom key edges (e + 1) first next
@@ -61,12 +63,3 @@ module _ (key : ℕ → ℕ) (edges : ℕ) where
       at-or-past d a b (inl q) =
           rw (← q) (get_or-set_same next e (get_or first (key e) 0) 0 (omega (arith, c.next_long)) ∙ c.firsts (key e) small)
       at-or-past d a b (inr q) = get_or-set_other next e d (get_or first (key e) 0) 0 (omega arith) ∙ c.nexts d (omega arith) b
-
-  -- all edges
-  pub linked-all : (first next : List ℕ) → LinkedFrom key edges 0 first next → Linked key edges first next
-  linked-all first next c = record {
-    chains = record { first-with = λ k l. rw sub-zero at (c.firsts k l); next_with = λ e l. c.nexts e (omega arith) l };
-    first_places = c.first_long;
-    next_places = c.next_long;
-    past = c.past;
-  }

@@ -6,13 +6,13 @@ ghost use Rattle.lists.specs.Pick.{pick};
 ghost use Rattle.lists.specs.Span.{span};
 ghost use Rattle.lists.specs.Fold.{count};
 ghost use Rattle.legal.specs.Loop.{Loop, Pair};
-ghost use Rattle.tables.specs.Edges.{Ends, Told};
+ghost use Rattle.tables.specs.Edges.{EndsIn, ToldBy};
 ghost use Rattle.tables.specs.Times.{SoundTimes, Timed};
 ghost use Rattle.list_rule.specs.Order.{order_of};
 ghost use Rattle.list_rule.specs.Rule.{start_number, list_rule_of};
 ghost use Rattle.list_rule.specs.Tables.{weight_of, OnBoard, EndsInBody, Raised, Used, WaitsTabled, blocks_at};
 
-use form::{Class, hold_of};
+use form::{Class, Edges, hold_of};
 use tables::Timetable;
 use widths::wide;
 
@@ -75,12 +75,12 @@ fn raise(busy: &mut [u8; 4128], begins: u16, class: u8, hold: u16)
 }
 
 // The units in use by the starts given, into a table in which none is.
-fn fill_busy<'a>(
-    busy: &'a mut [u8; 4128],
+fn fill_busy(
+    busy: &mut [u8; 4128],
     nodes: u8,
     classes: [Class; 4],
-    runs: &'a [u8; 64],
-    start: &'a [u16; 64],
+    runs: &[u8; 64],
+    start: &[u16; 64],
 )
     requires busy_len { (length busy.old ≡ 4128) × ((i : ℕ) → get_or busy.old i 0 ≡ 0) }
     requires nodes_bound { (nodes ≤ 64) × ((v : ℕ) → v < nodes → OnBoard classes runs.now v × (get_or start.now v 0 ≤ 1024)) }
@@ -125,26 +125,23 @@ fn blocked(delays: u8, tail: u8, head: u8, begins: u16, latency: u8, step: u16) 
 }
 
 // How many edges keep each node from starting at `step`.
-fn waiting<'a>(
-    edges: u16,
-    from: &'a [u8; 256],
-    to: &'a [u8; 256],
-    delays: &'a [u8; 256],
-    retiming: &'a [u8; 64],
-    latency: &'a [u8; 64],
-    start: &'a [u16; 64],
+fn waiting(
+    edges: Edges,
+    retiming: &[u8; 64],
+    latency: &[u8; 64],
+    start: &[u16; 64],
     step: u16,
 ) -> [u16; 64]
-    requires { Ends 64 edges from.now to.now }
-    ensures { WaitsTabled from.now to.now delays.now retiming.now latency.now start.now step edges result }
+    requires { EndsIn 64 edges }
+    ensures { WaitsTabled edges.entry.from.now edges.entry.to.now edges.entry.delays.now retiming.now latency.now start.now step edges.entry.count result }
 {
     let mut waits = [0u16; 64];
-    for e in 0..edges {
+    for e in 0..edges.count {
         let i = e as usize;
-        let tail = from[i] as usize;
-        let head = to[i] as usize;
+        let tail = edges.from[i] as usize;
+        let head = edges.to[i] as usize;
         waits[head] += blocked(
-            delays[i],
+            edges.delays[i],
             retiming[tail],
             retiming[head],
             start[tail],
@@ -156,19 +153,13 @@ fn waiting<'a>(
 }
 
 // Starts that are not 0 stay; the other nodes are placed.
-pub fn list_rule<'a>(
-    edges: u16,
-    from: &'a [u8; 256],
-    to: &'a [u8; 256],
-    delays: &'a [u8; 256],
-    times: Timetable,
-) -> [u16; 64]
-    requires { Ends times.nodes edges from.now to.now × SoundTimes times × EndsInBody times }
-    ensures { (g : Loop) (p : Pair) → Told g times.nodes edges from.now to.now delays.now → Timed g p times → result ≡ list_rule_of g p.retiming times.start }
+pub fn list_rule(edges: Edges, times: Timetable) -> [u16; 64]
+    requires { EndsIn times.nodes edges × SoundTimes times × EndsInBody times }
+    ensures { (g : Loop) (p : Pair) → ToldBy g times.nodes edges.entry → Timed g p times → result ≡ list_rule_of g p.retiming times.start }
 {
     let nodes = times.nodes;
     let classes = times.class;
-    let weight = reach::weights(nodes, edges, from, to, delays, &times.retiming);
+    let weight = reach::weights(nodes, edges, &times.retiming);
     let order = order_of(nodes, &weight);
     let mut start = times.start;
     let mut busy = idle();
@@ -177,16 +168,7 @@ pub fn list_rule<'a>(
         if unplaced(nodes, &start) == 0 {
             break 'steps;
         }
-        let waits = waiting(
-            edges,
-            from,
-            to,
-            delays,
-            &times.retiming,
-            &times.latency,
-            &start,
-            p,
-        );
+        let waits = waiting(edges, &times.retiming, &times.latency, &start, p);
         'nodes: for i in 0..nodes {
             let v = order[i as usize] as usize;
             if start[v] != 0 || waits[v] != 0 {

@@ -1,3 +1,4 @@
+pub mod Outcome
 pub mod Text
 pub mod Lines
 pub mod Shown

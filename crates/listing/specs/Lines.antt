@@ -1,13 +1,12 @@
 -- The lines of a listing: the mark, the counts with the floor, then each body step with the nodes that start there.
 -- Assumes nothing.
-use Rattle.std.specs.Prelude.{List, [], ◌∷◌, ◌++◌, map, ℕ, ◌+◌, eqb, ltb, length, get_or}
+use Rattle.std.specs.Prelude.{List, [], ◌∷◌, ◌++◌, map, ℕ, ◌+◌, eqb, ltb, length, get_or, None, Some}
 use Rattle.std.proofs.lemmas.List.Edits.{sets}
 use Rattle.lists.specs.Pick.{pick}
 use Rattle.lists.specs.Span.{span}
 use Rattle.lists.specs.Fold.{top}
-use Rattle.answer.specs.Refused.{number_of, fine}
-use Rattle.answer.specs.declared.Refusal.{Refusal}
-use Rattle.answer.specs.declared.Refusal.TheVariants.{None, Room}
+use Rattle.answer.specs.Refused.{Verdict, number_of, fine}
+use Rattle.answer.specs.declared.Refusal.TheVariants.{Room}
 use Rattle.laid.specs.Rows.{rows}
 use Rattle.form.specs.declared.Form.{Form}
 use Rattle.form.specs.Places.{start_of, retiming_of}
@@ -15,7 +14,7 @@ use Rattle.reader.specs.Reading.{read_form}
 use Rattle.legal.specs.Loop.{loop_of}
 use Rattle.judge.specs.Judgement.{judge_record}
 use Rattle.floor.specs.Parts.{floor_length}
-use Rattle.listing.specs.declared.Listed.{Listed}
+use Rattle.listing.specs.Outcome.{Listed}
 use Rattle.text.specs.Decimal.{decimal, newline}
 use Rattle.text.specs.Words.{refused_word, retiming_text}
 use Rattle.listing.specs.Text.{mark_line, nodes_word, edges_word, length_word, depth_word, floor_word, shortest_word, open_word}
@@ -62,7 +61,7 @@ form_lines f =
     ++ rows (λ i. step_line (start_of f) (retiming_of f) f.header.nodes (i + 1)) f.header.length)
 
 -- what the judge refuses, reading included, is one line
-unfoldable pub refused_line : Refusal → List ℕ
+unfoldable pub refused_line : Verdict → List ℕ
 refused_line r = refused_word ++ (decimal (number_of r) ++ newline)
 
 unfoldable pub listing_of : List ℕ → List ℕ
@@ -71,7 +70,7 @@ listing_of s = pick (fine (judge_record s)) (form_lines (read_form s).form) (ref
 -- only Room is refused
 unfoldable pub listed : List ℕ → ℕ → Listed
 listed s room =
-    pick (ltb room (length (listing_of s))) (record { refusal = Room 0; size = 0 })
+    pick (ltb room (length (listing_of s))) (record { refusal = Some (Room 0); size = 0 })
     (record { refusal = None; size = length (listing_of s) })
 
 -- the buffer afterwards: the listing from its start on, or as it was

@@ -1,8 +1,7 @@
 -- The run of a legal pair is never refused, so its values are the plain loop's.
 -- Assumes nothing.
-use Rattle.std.specs.Prelude.{◌≡◌, refl, true, List, ℕ, ◌+◌, ◌-◌, ◌*◌, ◌≤◌, ◌<◌, length}
+use Rattle.std.specs.Prelude.{◌≡◌, refl, true, List, ℕ, ◌+◌, ◌-◌, ◌*◌, ◌≤◌, ◌<◌, length, None}
 use Rattle.std.proofs.Common.{subst, ⊎_elim, arith}
-use Rattle.answer.specs.declared.Refusal.TheVariants.{None}
 use Rattle.legal.specs.Loop.{Loop, Pair, ran_on}
 use Rattle.legal.specs.Legal.{Legal}
 use Rattle.legal.specs.Shape.{Sound, Starting, bodied-within}

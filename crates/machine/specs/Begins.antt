@@ -1,10 +1,9 @@
 -- Where a run begins: the first places of its buffers cleared, nothing issued; and how it goes on.
 -- Assumes nothing.
-use Rattle.std.specs.Prelude.{◌≡◌, refl, true, List, ℕ, zero, suc, ◌+◌, ◌*◌, ◌≤◌, ◌<◌, length, get_or}
+use Rattle.std.specs.Prelude.{◌≡◌, refl, true, List, ℕ, zero, suc, ◌+◌, ◌*◌, ◌≤◌, ◌<◌, length, get_or, None}
 use Rattle.std.proofs.Common.{◌∙◌, ⊎_elim, arith, eq-or-lt_of_le, le_of_suc-le-suc, length-set, get_or-set_same, get_or-set_other}
 use Rattle.lists.specs.Quotient.{rows-below}
 use Rattle.answer.specs.Refused.{fine}
-use Rattle.answer.specs.declared.Refusal.TheVariants.{None}
 use Rattle.legal.specs.Loop.{Loop, Pair}
 use Rattle.legal.specs.Shape.{Sound, Starting}
 use Rattle.machine.specs.Values.{place_of}

@@ -1,14 +1,13 @@
 -- How any run ends: with all issued, or stopped at a node in a run step with the earlier issues alone in its tables.
 -- Assumes nothing.
-use Rattle.std.specs.Prelude.{◌≡◌, refl, false, ◌⊎◌, List, ℕ, suc, ◌+◌, ◌*◌, ◌≤◌, ◌<◌, length, get_or}
+use Rattle.std.specs.Prelude.{◌≡◌, refl, false, ◌⊎◌, List, ℕ, suc, ◌+◌, ◌*◌, ◌≤◌, ◌<◌, length, get_or, None, Some}
 use Rattle.std.proofs.Common.{sym, ◌∙◌}
 use Rattle.std.proofs.Math.Path.{ap, subst}
 use Rattle.std.proofs.Math.Bool.{true}
 use Rattle.std.proofs.Math.Logic.{inl, inr, ⊎_elim}
 use Rattle.lists.specs.Pick.{both_ways}
-use Rattle.answer.specs.Refused.{fine}
-use Rattle.answer.specs.declared.Refusal.{Refusal}
-use Rattle.answer.specs.declared.Refusal.TheVariants.{None, Early, Busy}
+use Rattle.answer.specs.Refused.{Verdict, fine}
+use Rattle.answer.specs.declared.Refusal.TheVariants.{Early, Busy}
 use Rattle.legal.specs.Loop.{Loop, Pair, ran_on}
 use Rattle.legal.specs.Shape.{Sound, Starting}
 use Rattle.machine.specs.Run.{Machine, issues, late_edge, held_now, visit, run_steps, run_of}
@@ -25,8 +24,8 @@ module _ (g : Loop) (p : Pair) (starts : List ℕ) (k : ℕ) where
   -- what stopped the run at node v in run step t: the first late edge, or, with none late, its class's units
   abbrev pub Why : Machine → ℕ → ℕ → Type 0
   Why m t v =
-      ((m.refusal ≡ Early t v (late_edge g p starts k m.finish t v)) × (late_edge g p starts k m.finish t v < g.graph.edges))
-      ⊎ ((m.refusal ≡ Busy t v (ran_on g v)) × (g.graph.edges ≤ late_edge g p starts k m.finish t v)
+      ((m.refusal ≡ Some (Early t v (late_edge g p starts k m.finish t v))) × (late_edge g p starts k m.finish t v < g.graph.edges))
+      ⊎ ((m.refusal ≡ Some (Busy t v (ran_on g v))) × (g.graph.edges ≤ late_edge g p starts k m.finish t v)
       × ((g.class (ran_on g v)).units ≤ held_now g p starts k m.finish (ran_on g v) t))
 
   -- a run from m₀ that stopped there
@@ -40,7 +39,7 @@ module _ (g : Loop) (p : Pair) (starts : List ℕ) (k : ℕ) where
     pub why : Why m step node
 
   -- a refusal leaves the tables as they are
-  sofar-halted : (m₀ m : Machine) (n : ℕ) (why : Refusal) → Sofar g p starts k m₀ n m → Sofar g p starts k m₀ n (halted m why)
+  sofar-halted : (m₀ m : Machine) (n : ℕ) (why : Verdict) → Sofar g p starts k m₀ n m → Sofar g p starts k m₀ n (halted m why)
   sofar-halted m₀ m n why f = record {
     values_length = f.values_length;
     finish_length = f.finish_length;

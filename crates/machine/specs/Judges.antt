@@ -1,8 +1,7 @@
 -- The judge and the machine on a well-formed form: what the judge accepts runs to its end, as the plain loop does; what it refuses is stuck, given iterations enough.
 -- Assumes nothing.
-use Rattle.std.specs.Prelude.{◌≡◌, ◌≢◌, List, ℕ, ◌+◌, ◌*◌, ◌≤◌, length}
+use Rattle.std.specs.Prelude.{◌≡◌, ◌≢◌, List, ℕ, ◌+◌, ◌*◌, ◌≤◌, length, None}
 use Rattle.std.proofs.Common.{arith}
-use Rattle.answer.specs.declared.Refusal.TheVariants.{None}
 use Rattle.form.specs.declared.Form.{Form}
 use Rattle.form.specs.Ranges.{WellFormed}
 use Rattle.legal.specs.Loop.{loop_of, pair_of, graph_of, bodies}

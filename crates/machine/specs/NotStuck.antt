@@ -1,7 +1,6 @@
 -- A run that is never refused issues every node of every iteration in its own step, and its values are the plain loop's.
 -- Assumes nothing.
-use Rattle.std.specs.Prelude.{◌≡◌, List, ℕ, ◌*◌, ◌≤◌, ◌<◌, length}
-use Rattle.answer.specs.declared.Refusal.TheVariants.{None}
+use Rattle.std.specs.Prelude.{◌≡◌, List, ℕ, ◌*◌, ◌≤◌, ◌<◌, length, None}
 use Rattle.legal.specs.Loop.{Loop, Pair}
 use Rattle.legal.specs.Shape.{Sound, Starting}
 use Rattle.machine.specs.Plain.{PlainLoop}

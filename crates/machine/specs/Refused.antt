@@ -1,8 +1,7 @@
 -- A run of as many iterations as the depth and the bodies that an operation reaches into that is never refused has a legal pair: what breaks a rule is refused.
 -- Assumes nothing.
-use Rattle.std.specs.Prelude.{◌≡◌, ◌≢◌, List, ℕ, ◌+◌, ◌*◌, ◌≤◌, ◌<◌, length}
+use Rattle.std.specs.Prelude.{◌≡◌, ◌≢◌, List, ℕ, ◌+◌, ◌*◌, ◌≤◌, ◌<◌, length, None}
 use Rattle.std.proofs.Common.{arith}
-use Rattle.answer.specs.declared.Refusal.TheVariants.{None}
 use Rattle.legal.specs.Loop.{Loop, Pair, bodies}
 use Rattle.legal.specs.Legal.{Legal, EdgeRule, Knot, busy}
 use Rattle.legal.specs.Shape.{Sound, Placed, WithinBodies, bodied-within}

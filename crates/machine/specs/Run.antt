@@ -1,13 +1,12 @@
 -- A run, step by step: nodes ascending, operands in edge order, Early before Busy.
 -- Assumes nothing.
-use Rattle.std.specs.Prelude.{Bool, ◌&&◌, ◌||◌, not, List, map, ℕ, zero, suc, ◌+◌, ◌-◌, ◌*◌, ◌/◌, ◌%◌, eqb, leb, ltb, length, get_or, set}
+use Rattle.std.specs.Prelude.{Bool, ◌&&◌, ◌||◌, not, List, map, ℕ, zero, suc, ◌+◌, ◌-◌, ◌*◌, ◌/◌, ◌%◌, eqb, leb, ltb, length, get_or, set, None, Some}
 use Rattle.lists.specs.Pick.{pick}
 use Rattle.lists.specs.Span.{span}
 use Rattle.lists.specs.Fold.{count, fold, top}
 use Rattle.lists.specs.First.{first_from}
-use Rattle.answer.specs.Refused.{fine}
-use Rattle.answer.specs.declared.Refusal.{Refusal}
-use Rattle.answer.specs.declared.Refusal.TheVariants.{None, Early, Busy}
+use Rattle.answer.specs.Refused.{Verdict, fine}
+use Rattle.answer.specs.declared.Refusal.TheVariants.{Early, Busy}
 use Rattle.form.specs.Hold.{hold}
 use Rattle.legal.specs.Loop.{Loop, Pair, ran_on, latency}
 use Rattle.machine.specs.Values.{place_of, from_start, computed}
@@ -16,7 +15,7 @@ use Rattle.machine.specs.Values.{place_of, from_start, computed}
 pub record Machine : Type 0 where
   pub values : List ℕ
   pub finish : List ℕ
-  pub refusal : Refusal
+  pub refusal : Verdict
 
 -- the largest retiming
 unfoldable pub depth : Loop → Pair → ℕ
@@ -66,14 +65,14 @@ module _ (g : Loop) (p : Pair) (starts : List ℕ) (k : ℕ) where
   unfoldable pub issue : Machine → ℕ → ℕ → Machine
   issue m t v =
       pick (ltb (late_edge m.finish t v) g.graph.edges)
-      (record { values = m.values; finish = m.finish; refusal = Early t v (late_edge m.finish t v) })
+      (record { values = m.values; finish = m.finish; refusal = Some (Early t v (late_edge m.finish t v)) })
       (pick (ltb (held_now m.finish (ran_on g v) t) (g.class (ran_on g v)).units)
       (record {
         values = set m.values (place_of g starts (iteration t v) v) (computed g starts m.values (iteration t v) v);
         finish = set m.finish (place_of g starts (iteration t v) v) (t + latency g v);
         refusal = None;
       })
-      (record { values = m.values; finish = m.finish; refusal = Busy t v (ran_on g v) }))
+      (record { values = m.values; finish = m.finish; refusal = Some (Busy t v (ran_on g v)) }))
 
   -- node v in run step t, if it issues there and the run goes on
   unfoldable pub visit : ℕ → Machine → ℕ → Machine

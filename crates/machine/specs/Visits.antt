@@ -1,20 +1,19 @@
 -- What one visit of a node does, and what holds through all visits of a run.
 -- Assumes nothing.
-use Rattle.std.specs.Prelude.{◌≡◌, true, false, List, ℕ, suc, ◌+◌, ◌*◌, ◌≤◌, ◌<◌, ltb, set}
+use Rattle.std.specs.Prelude.{◌≡◌, true, false, List, ℕ, suc, ◌+◌, ◌*◌, ◌≤◌, ◌<◌, ltb, set, None, Some}
 use Rattle.std.proofs.Common.{sym}
 use Rattle.std.proofs.Math.Path.{subst}
 use borrow.Author.Tests.{ltb-true, ltb-false}
 use Rattle.lists.specs.Pick.{pick, pick_ind, pick_true, pick-false}
-use Rattle.answer.specs.Refused.{fine}
-use Rattle.answer.specs.declared.Refusal.{Refusal}
-use Rattle.answer.specs.declared.Refusal.TheVariants.{None, Early, Busy}
+use Rattle.answer.specs.Refused.{Verdict, fine}
+use Rattle.answer.specs.declared.Refusal.TheVariants.{Early, Busy}
 use Rattle.legal.specs.Loop.{Loop, Pair, ran_on, latency}
 use Rattle.machine.specs.Through.{step_by, ran_by, through}
 use Rattle.machine.specs.Values.{place_of, computed}
 use Rattle.machine.specs.Run.{Machine, issues, iteration, late_edge, held_now, issue, visit, step_of, ran}
 
 -- a machine stopped, with its tables as they are
-abbrev pub halted : Machine → Refusal → Machine
+abbrev pub halted : Machine → Verdict → Machine
 halted m why = record { values = m.values; finish = m.finish; refusal = why }
 
 module _ (g : Loop) (p : Pair) (starts : List ℕ) (k : ℕ) where
@@ -35,10 +34,10 @@ module _ (g : Loop) (p : Pair) (starts : List ℕ) (k : ℕ) where
   pub data Visited (t v : ℕ) (m : Machine) : Machine → Type 0 where
     idle : issues g p starts k t v ≡ false → Visited t v m m
     early : issues g p starts k t v ≡ true → late_edge g p starts k m.finish t v < g.graph.edges
-        → Visited t v m (halted m (Early t v (late_edge g p starts k m.finish t v)))
+        → Visited t v m (halted m (Some (Early t v (late_edge g p starts k m.finish t v))))
     busy : issues g p starts k t v ≡ true → g.graph.edges ≤ late_edge g p starts k m.finish t v
         → (g.class (ran_on g v)).units ≤ held_now g p starts k m.finish (ran_on g v) t
-        → Visited t v m (halted m (Busy t v (ran_on g v)))
+        → Visited t v m (halted m (Some (Busy t v (ran_on g v))))
     goes : issues g p starts k t v ≡ true → Clear t v m → Visited t v m (after_issue t v m)
 
   issue-visited : (t v : ℕ) (m : Machine) → issues g p starts k t v ≡ true → Visited t v m (issue g p starts k m t v)

@@ -1,12 +1,11 @@
 -- The small loop's run: three iterations, node 2 starting at 5 and 7.
 -- Assumes nothing.
-use Rattle.std.specs.Prelude.{◌≡◌, refl, List, [], ◌∷◌, ℕ, get_or, set, replicate}
+use Rattle.std.specs.Prelude.{◌≡◌, refl, List, [], ◌∷◌, ℕ, get_or, set, replicate, None}
 use Rattle.lists.specs.Pick.{pick}
 use Rattle.lists.specs.Span.{span}
 use Rattle.lists.specs.Fold.{count, fold, top}
 use Rattle.lists.specs.First.{first_from}
 use Rattle.answer.specs.Refused.{fine}
-use Rattle.answer.specs.declared.Refusal.TheVariants.{None}
 use Rattle.form.specs.Hold.{hold}
 use Rattle.legal.specs.Loop.{plain, Pair}
 use Rattle.legal.specs.Small.{small}

@@ -1,27 +1,25 @@
--- A product of words, places among the values, and a walk over links that has come to an edge.
+-- A difference, places among the values, and a walk over links that has come to an edge.
 -- Assumes nothing.
-use mathlib.Core.Path.{◌≡◌, sym, ◌∙◌, ap, subst, subst⁻¹}
-use mathlib.Core.Bool.{Bool, true, false}
+use Rattle.std.specs.Prelude.{Option, Some}
+use mathlib.Core.Path.{◌≡◌, sym, ◌∙◌, ap, subst}
 use mathlib.Core.List.{List, ◌∷◌, map}
-use Prim.Native.Nat.{ℕ, ◌+◌, ◌-◌, ◌*◌, ◌^◌, ◌≤◌, ◌<◌}
+use Prim.Native.Nat.{ℕ, ◌+◌, ◌-◌, ◌*◌, ◌%◌, ◌≤◌, ◌<◌}
 use native.Mathlib.Omega.{arith}
-use native.Mathlib.Nat.{le_of_lt, lt_of_le_of_lt, mul-le-mul_left, mul-le-mul_right, mul-lt-mul_of_pos_right}
+use native.Mathlib.Nat.{mul-le-mul_right}
 use lib.ListN.{get_or}
-use lib.Pow.{pow_pos, pow-add}
 use borrow.Author.Tests.{eq-eqb}
 use Rattle.links.specs.Chains.{first_with, has_key}
 use Rattle.form.specs.declared.Operation.{Operation}
 use Rattle.legal.specs.Loop.{Loop}
-use Rattle.machine.specs.Values.{Reader, edges_into, operand_by, computed_by, buffer, operand}
+use Rattle.machine.specs.Values.{word, minus, Reader, edges_into, operand_by, computed_by, buffer, operand}
 use Rattle.operands.specs.Into.{into-first, into-here}
 use Rattle.operands.specs.Combined.{opening, combined, closing, finished, finished-applied}
 use Rattle.operands.specs.Tables.{handed, Tells, Follows}
 
--- the product of two numbers of k bits has at most k + k
-pub below : (k : ℕ) {a b : ℕ} → a < 2 ^ k → b < 2 ^ k → a * b < 2 ^ (k + k)
-below k {a} {b} ha hb =
-    subst⁻¹ (λ (n : ℕ). a * b < n) (pow-add 2 k k)
-    (lt_of_le_of_lt (mul-le-mul_left a (le_of_lt hb)) (mul-lt-mul_of_pos_right ha (pow_pos k)))
+-- a difference of words as the code takes it
+pub minus-is : (a b : ℕ) → b < 4294967296 → (a + (4294967296 - b)) % 4294967296 ≡ minus a b
+unfolding minus
+minus-is a b l = let small : word b ≡ b = omega arith in rw small
 
 -- ---- one operand
 
@@ -43,26 +41,26 @@ module _ (g : Loop) (v : ℕ) (o : Operation) (starts : List ℕ) (read : Reader
   operands_of es = map (operand_by g starts read i) es
 
   -- the walk has come to edge e, and the operands from there on finish the whole
-  pub record Walking (e : ℕ) (begun : Bool) (total : ℕ) : Type 0 where
+  pub record Walking (e : ℕ) (total : Option ℕ) : Type 0 where
     pub into : e < g.graph.edges → g.graph.head e ≡ v
-    pub whole : finished o begun total (operands_of (edges_into g v (g.graph.edges - e) e)) ≡ computed_by g starts read i v
+    pub whole : finished o total (operands_of (edges_into g v (g.graph.edges - e) e)) ≡ computed_by g starts read i v
 
   module _ (first : ℕ) (next : List ℕ) (f : Follows g v o first next) where
-    pub walking-first : Walking first false (opening o)
+    pub walking-first : Walking first (opening o)
     unfolding computed_by
     walking-first = record {
       into = λ l. rw f.is_first (has_key g.graph.head v g.graph.edges 0 (omega (arith, f.is_first)));
       whole =
           rw (f.is_first, f.is_operation) (
-          ap (λ es. finished o false (opening o) (operands_of es)) (sym (into-first g v g.graph.edges 0 g.graph.edges (omega arith)))
+          ap (λ es. finished o (opening o) (operands_of es)) (sym (into-first g v g.graph.edges 0 g.graph.edges (omega arith)))
           ∙ finished-applied o (operands_of (edges_into g v g.graph.edges 0)));
     }
 
     -- one operand more
-    pub walking-next : (e total : ℕ) (begun : Bool) → e < g.graph.edges → Walking e begun total
-        → Walking (get_or next e 0) true (combined o begun total (operand_by g starts read i e))
+    pub walking-next : (e : ℕ) (total : Option ℕ) → e < g.graph.edges → Walking e total
+        → Walking (get_or next e 0) (Some (combined o total (operand_by g starts read i e)))
     unfolding finished
-    walking-next e total begun l w =
+    walking-next e total l w =
         let left = g.graph.edges - (e + 1) in
         let here : g.graph.head e ≡ v = w.into l in
         let is : get_or next e 0 ≡ first_with g.graph.head v left (e + 1) = f.is_next e l ∙ ap (λ u. first_with g.graph.head u left (e + 1)) here in
@@ -75,9 +73,9 @@ module _ (g : Loop) (v : ℕ) (o : Operation) (starts : List ℕ) (read : Reader
         }
 
     -- no edge is left
-    pub walking-end : (e total : ℕ) (begun : Bool) → e ≡ g.graph.edges → Walking e begun total → closing o total ≡ computed_by g starts read i v
+    pub walking-end : (e : ℕ) (total : Option ℕ) → e ≡ g.graph.edges → Walking e total → closing o total ≡ computed_by g starts read i v
     unfolding edges_into finished
-    walking-end e total begun q w =
+    walking-end e total q w =
         let none : g.graph.edges - e ≡ 0 = omega arith in
         rw none at w.whole
 
@@ -89,10 +87,10 @@ handed-operand g nodes edges tails delays starts values i e t l = rw (t.all-node
 
 -- the walk goes on with the total that the tables give
 pub walking_on : (g : Loop) (v : ℕ) (o : Operation) (starts values : List ℕ) (i : ℕ) (first : ℕ) (next : List ℕ) → Follows g v o first next
-    → (nodes edges : ℕ) (tails delays : List ℕ) → Tells g nodes edges tails delays → (e total : ℕ) (begun : Bool) → e < edges → Walking g v o starts (buffer g starts values) i e begun total
-    → (x : ℕ) → x ≡ handed nodes starts values i (get_or tails e 0) (get_or delays e 0) → (after : ℕ) → after ≡ combined o begun total x
-    → Walking g v o starts (buffer g starts values) i (get_or next e 0) true after
-walking_on g v o starts values i first next f nodes edges tails delays t e total begun l w x is after so =
-    subst (Walking g v o starts (buffer g starts values) i (get_or next e 0) true)
-    (sym (so ∙ ap (combined o begun total) (is ∙ handed-operand g nodes edges tails delays starts values i e t l)))
-    (walking-next g v o starts (buffer g starts values) i first next f e total begun (omega (arith, t.all_edges)) w)
+    → (nodes edges : ℕ) (tails delays : List ℕ) → Tells g nodes edges tails delays → (e : ℕ) (total : Option ℕ) → e < edges → Walking g v o starts (buffer g starts values) i e total
+    → (x : ℕ) → x ≡ handed nodes starts values i (get_or tails e 0) (get_or delays e 0) → (after : ℕ) → after ≡ combined o total x
+    → Walking g v o starts (buffer g starts values) i (get_or next e 0) (Some after)
+walking_on g v o starts values i first next f nodes edges tails delays t e total l w x is after so =
+    subst (λ (y : ℕ). Walking g v o starts (buffer g starts values) i (get_or next e 0) (Some y))
+    (sym (so ∙ ap (combined o total) (is ∙ handed-operand g nodes edges tails delays starts values i e t l)))
+    (walking-next g v o starts (buffer g starts values) i first next f e total (omega (arith, t.all_edges)) w)

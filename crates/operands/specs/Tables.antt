@@ -5,6 +5,7 @@ use Rattle.lists.specs.Pick.{pick}
 use Rattle.links.specs.Chains.{first_with}
 use Rattle.form.specs.declared.Operation.{Operation}
 use Rattle.legal.specs.Loop.{Loop}
+use Rattle.operands.specs.declared.Inputs.{Inputs}
 
 -- the start table, and the values as far as iteration i
 pub record HasRoom (nodes i : ℕ) (starts values : List ℕ) : Type 0 where
@@ -42,3 +43,16 @@ pub record Follows (g : Loop) (v : ℕ) (operation : Operation) (first : ℕ) (n
 -- tables, operation and links are those of some node of some loop
 abbrev pub Meant : ℕ → ℕ → List ℕ → List ℕ → Operation → ℕ → List ℕ → Type 0
 Meant nodes edges tails delays operation first next = (g : Loop) × ((v : ℕ) × Tells g nodes edges tails delays × Follows g v operation first next)
+
+-- the same of tables that are lent together
+abbrev pub LinkedIn : Inputs → Type 0
+LinkedIn x = TailsLinked x.nodes x.edges x.from.now x.delays.now x.next.now
+
+abbrev pub TellsIn : Loop → Inputs → Type 0
+TellsIn g x = Tells g x.nodes x.edges x.from.now x.delays.now
+
+abbrev pub FollowsIn : Loop → ℕ → Operation → ℕ → Inputs → Type 0
+FollowsIn g v operation first x = Follows g v operation first x.next.now
+
+abbrev pub MeantIn : Inputs → Operation → ℕ → Type 0
+MeantIn x operation first = Meant x.nodes x.edges x.from.now x.delays.now operation first x.next.now

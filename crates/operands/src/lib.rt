@@ -3,30 +3,21 @@
 
 ghost use Rattle.std.specs.Prelude.{◌≡◌, ℕ, ◌≤◌, ◌<◌};
 ghost use Rattle.legal.specs.Loop.{Loop};
-ghost use Rattle.machine.specs.Values.{plus as plusOf, minus as minusOf, times as times_of, computed};
-ghost use Rattle.operands.specs.Tables.{HasRoom, handed, TailsLinked, Tells, Follows, Meant};
-ghost use Rattle.operands.specs.Combined.{opening, subtracted as subtractedOf, combined as combinedOf, closing};
+ghost use Rattle.machine.specs.Values.{computed};
+ghost use Rattle.operands.specs.Tables.{HasRoom, handed, LinkedIn, TellsIn, FollowsIn, MeantIn};
+ghost use Rattle.operands.specs.Combined.{opening, combined as combinedOf, closing};
 
 use form::Operation;
 use machine::Iteration;
 
-// Sum, difference and product, modulo 2^32.
-fn plus(a: u32, b: u32) -> u32
-    ensures { result ≡ plusOf a b }
-{
-    ((a as u64 + b as u64) % 4294967296) as u32
-}
-
-fn minus(a: u32, b: u32) -> u32
-    ensures { result ≡ minusOf a b }
-{
-    ((a as u64 + (4294967296 - b as u64)) % 4294967296) as u32
-}
-
-fn times(a: u32, b: u32) -> u32
-    ensures { result ≡ times_of a b }
-{
-    ((a as u64 * b as u64) % 4294967296) as u32
+// The edges into the nodes, linked: a walk along `next` meets the edges into one node. Edge e is in place e of each table, for e below the count.
+#[derive(Clone, Copy)]
+pub struct Inputs<'a> {
+    pub nodes: u8,
+    pub edges: u16,
+    pub from: &'a [u8; 256],
+    pub delays: &'a [u8; 256],
+    pub next: &'a [u16; 256],
 }
 
 // What an edge of so many delays hands to an iteration: from the start table where it reaches before the first.
@@ -49,45 +40,39 @@ fn operand_of<'a>(
     values[(i - back) as usize * nodes as usize + from as usize]
 }
 
-// The total before any operand: the constant, or 0 for a difference.
-fn opening_of(operation: Operation) -> u32
+// The total before any operand: the constant. A difference begins with its first operand.
+fn opening_of(operation: Operation) -> Option<u32>
     ensures { result ≡ opening operation }
 {
     match operation {
-        Operation::Add(constant) => constant,
-        Operation::Sub(_) => 0,
-        Operation::Mul(constant) => constant,
+        Operation::Add(constant) => Some(constant),
+        Operation::Sub(_) => None,
+        Operation::Mul(constant) => Some(constant),
     }
 }
 
-// A difference begins with its first operand.
-fn subtracted(begun: bool, total: u32, operand: u32) -> u32
-    ensures { result ≡ subtractedOf begun total operand }
+// The total with one operand more.
+fn combined(operation: Operation, total: Option<u32>, operand: u32) -> u32
+    ensures { result ≡ combinedOf operation total operand }
 {
-    if begun {
-        return minus(total, operand);
-    }
-    operand
-}
-
-// The total with one operand more; `begun` says that it is not the first.
-fn combined(operation: Operation, begun: bool, total: u32, operand: u32) -> u32
-    ensures { result ≡ combinedOf operation begun total operand }
-{
+    let Some(total) = total else {
+        return operand;
+    };
     match operation {
-        Operation::Add(_) => plus(total, operand),
-        Operation::Sub(_) => subtracted(begun, total, operand),
-        Operation::Mul(_) => times(total, operand),
+        Operation::Add(_) => total.wrapping_add(operand),
+        Operation::Sub(_) => total.wrapping_sub(operand),
+        Operation::Mul(_) => total.wrapping_mul(operand),
     }
 }
 
 // The value after the last operand: a difference still loses its constant.
-fn closing_of(operation: Operation, total: u32) -> u32
+fn closing_of(operation: Operation, total: Option<u32>) -> u32
     ensures { result ≡ closing operation total }
 {
+    let total = total.unwrap_or(0);
     match operation {
         Operation::Add(_) => total,
-        Operation::Sub(constant) => minus(total, constant),
+        Operation::Sub(constant) => total.wrapping_sub(constant),
         Operation::Mul(_) => total,
     }
 }
@@ -96,27 +81,29 @@ fn closing_of(operation: Operation, total: u32) -> u32
 pub fn value_of<'a>(
     operation: Operation,
     first: u16,
-    nodes: u8,
-    edges: u16,
+    inputs: Inputs<'a>,
     iteration: Iteration,
-    from: &'a [u8; 256],
-    delays: &'a [u8; 256],
-    next: &'a [u16; 256],
     starts: &'a [u32],
     values: &'a [u32],
 ) -> u32
-    requires { TailsLinked nodes edges from.now delays.now next.now × HasRoom nodes iteration.0 starts.now values.now × (first ≤ edges) × Meant nodes edges from.now delays.now operation first next.now }
-    ensures { (g : Loop) (v : ℕ) → Tells g nodes edges from.now delays.now → Follows g v operation first next.now → result ≡ computed g starts.now values.now iteration.0 v }
+    requires { LinkedIn inputs × HasRoom inputs.nodes iteration.0 starts.now values.now × (first ≤ inputs.edges) × MeantIn inputs operation first }
+    ensures { (g : Loop) (v : ℕ) → TellsIn g inputs.entry → FollowsIn g v operation first inputs.entry → result ≡ computed g starts.now values.now iteration.0 v }
 {
     let mut total = opening_of(operation);
-    let mut begun = false;
     let mut e = first;
-    while e < edges {
+    // the links are followed, and no index is counted
+    while e < inputs.edges {
         let i = e as usize;
-        let operand = operand_of(from[i], delays[i], nodes, iteration, starts, values);
-        total = combined(operation, begun, total, operand);
-        begun = true;
-        e = next[i];
+        let operand = operand_of(
+            inputs.from[i],
+            inputs.delays[i],
+            inputs.nodes,
+            iteration,
+            starts,
+            values,
+        );
+        total = Some(combined(operation, total, operand));
+        e = inputs.next[i];
     }
     closing_of(operation, total)
 }

@@ -1,10 +1,9 @@
 -- What the plain loop answers of a form, and of a record: what the reader refuses of it first, then a knot, then room.
 -- Assumes nothing.
-use Rattle.std.specs.Prelude.{◌≡◌, true, false, List, ℕ, ◌*◌, ltb, length}
+use Rattle.std.specs.Prelude.{◌≡◌, true, false, List, ℕ, ◌*◌, ltb, length, None, Some}
 use Rattle.lists.specs.Pick.{pick}
-use Rattle.answer.specs.Refused.{fine}
-use Rattle.answer.specs.declared.Refusal.{Refusal}
-use Rattle.answer.specs.declared.Refusal.TheVariants.{None, Knot, Room}
+use Rattle.answer.specs.Refused.{Verdict, fine}
+use Rattle.answer.specs.declared.Refusal.TheVariants.{Knot, Room}
 use Rattle.form.specs.declared.Form.{Form}
 use Rattle.reader.specs.Reading.{read_form}
 use Rattle.record.specs.ReadFirst.{read_first}
@@ -13,32 +12,32 @@ use Rattle.legal.specs.Systems.{knotted}
 use Rattle.legal.specs.Handed.{Handed}
 use Rattle.machine.specs.Plain.{PlainLoop}
 use Rattle.machine.specs.Ended.{KeptFrom}
-use Rattle.plain.specs.declared.Looped.{Looped}
+use Rattle.plain.specs.Outcome.{Looped}
 
 -- the start table has 15 numbers for each node, the values one for each node and iteration
-unfoldable pub room_of : ℕ → ℕ → ℕ → ℕ → Refusal
-room_of nodes k starts values = pick (ltb starts (15 * nodes)) (Room 0) (pick (ltb values (k * nodes)) (Room 1) None)
+unfoldable pub room_of : ℕ → ℕ → ℕ → ℕ → Verdict
+room_of nodes k starts values = pick (ltb starts (15 * nodes)) (Some (Room 0)) (pick (ltb values (k * nodes)) (Some (Room 1)) None)
 
-unfoldable pub plain_of : Loop → ℕ → ℕ → ℕ → Refusal
-plain_of g k starts values = pick (knotted g) Knot (room_of g.graph.nodes k starts values)
+unfoldable pub plain_of : Loop → ℕ → ℕ → ℕ → Verdict
+plain_of g k starts values = pick (knotted g) (Some Knot) (room_of g.graph.nodes k starts values)
 
 -- what is refused of the bytes, else of the loop that they hold, with tables of these lengths
-unfoldable pub plain_record : List ℕ → ℕ → ℕ → ℕ → Refusal
+unfoldable pub plain_record : List ℕ → ℕ → ℕ → ℕ → Verdict
 plain_record s k starts values = read_first s (λ f. plain_of (loop_of f) k starts values)
 
 -- the values of k iterations stand in the buffer, and its places past them are as they were
-pub record Ran (g : Loop) (k : ℕ) (starts before after : List ℕ) : Type 0 where
+pub record LoopRan (g : Loop) (k : ℕ) (starts before after : List ℕ) : Type 0 where
   pub plain : PlainLoop g starts k after
   pub kept : KeptFrom (k * g.graph.nodes) before after
 
 pub record FormLooped (f : Form) (k : ℕ) (starts before after : List ℕ) (r : Looped) : Type 0 where
   pub refusal : r.refusal ≡ plain_of (loop_of f) k (length starts) (length before)
   pub handed : Handed (loop_of f) (pair_of f) r.refusal r.cycle
-  pub done : fine r.refusal ≡ true → Ran (loop_of f) k starts before after
+  pub done : fine r.refusal ≡ true → LoopRan (loop_of f) k starts before after
   pub untouched : fine r.refusal ≡ false → after ≡ before
 
 pub record RecordLooped (s : List ℕ) (k : ℕ) (starts before after : List ℕ) (r : Looped) : Type 0 where
   pub refusal : r.refusal ≡ plain_record s k (length starts) (length before)
   pub handed : Handed (loop_of (read_form s).form) (pair_of (read_form s).form) r.refusal r.cycle
-  pub done : fine r.refusal ≡ true → Ran (loop_of (read_form s).form) k starts before after
+  pub done : fine r.refusal ≡ true → LoopRan (loop_of (read_form s).form) k starts before after
   pub untouched : fine r.refusal ≡ false → after ≡ before

@@ -1,5 +1,5 @@
+pub mod Outcome
 pub mod Looping
-pub mod Turns
 pub mod Ascending
 pub mod Settled
 pub mod Answer

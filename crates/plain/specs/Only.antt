@@ -5,8 +5,7 @@ use Rattle.std.proofs.Common.{sym, ◌∙◌, ap, subst, arith, ext_get_or}
 use Rattle.std.proofs.Math.Decide.{dec_lt}
 use Rattle.lists.specs.Pick.{pick_ind, both_ways}
 use Rattle.lists.specs.Quotient.{row_of}
-use Rattle.answer.specs.Refused.{fine}
-use Rattle.answer.specs.declared.Refusal.{Refusal}
+use Rattle.answer.specs.Refused.{Verdict, fine}
 use Rattle.field.specs.Number.{Bytes}
 use Rattle.reader.specs.Reading.{read_form}
 use Rattle.record.specs.Read.{read-well-formed}
@@ -16,17 +15,17 @@ use Rattle.legal.specs.Shape.{Sound, sound-form}
 use Rattle.legal.specs.Systems.{knotted}
 use Rattle.legal.specs.Knots.{Free, unknotted-free}
 use Rattle.machine.specs.Unique.{unique}
-use Rattle.plain.specs.declared.Looped.{Looped}
-use Rattle.plain.specs.Answer.{plain_of, plain_record, Ran, RecordLooped}
+use Rattle.plain.specs.Outcome.{Looped}
+use Rattle.plain.specs.Answer.{plain_of, plain_record, LoopRan, RecordLooped}
 
 -- where nothing is refused the loop has no knot
 plain-free : (g : Loop) (k starts values : ℕ) → fine (plain_of g k starts values) ≡ true → knotted g ≡ false
 unfolding plain_of fine
 plain-free g k starts values =
-    pick_ind (λ (r : Refusal). fine r ≡ true → knotted g ≡ false) (knotted g) _ _ (λ e f. both_ways f refl) (λ e f. e)
+    pick_ind (λ (r : Verdict). fine r ≡ true → knotted g ≡ false) (knotted g) _ _ (λ e f. both_ways f refl) (λ e f. e)
 
 -- two buffers after the same loop are the same
-ran-once : (g : Loop) → Sound g → Free g → (k : ℕ) (starts before xs ys : List ℕ) → Ran g k starts before xs → Ran g k starts before ys → xs ≡ ys
+ran-once : (g : Loop) → Sound g → Free g → (k : ℕ) (starts before xs ys : List ℕ) → LoopRan g k starts before xs → LoopRan g k starts before ys → xs ≡ ys
 ran-once g sound free k starts before xs ys a b = ext_get_or 0 xs ys (a.kept.long ∙ sym b.kept.long) at
   where
     at : (x : ℕ) → x < length xs → get_or xs x 0 ≡ get_or ys x 0

@@ -14,7 +14,7 @@ use Rattle.form.specs.declared.Form.{Form}
 use Rattle.form.specs.declared.BodyStep.{BodyStep}
 use Rattle.form.specs.Places.{no_step, start_of, scheduled_of, scheduled, used}
 use Rattle.field.specs.Number.{Bytes}
-use Rattle.reader.specs.declared.Record.{Record}
+use Rattle.reader.specs.Outcome.{Record}
 use Rattle.reader.specs.Reading.{read_form}
 use Rattle.record.specs.FirstOf.{first_past}
 use Rattle.record.specs.Read.{read-well-formed, read-used}

@@ -1,3 +1,4 @@
+pub mod Outcome
 pub mod Pairs
 pub mod Tabled
 pub mod Kept

@@ -3,8 +3,7 @@
 use Rattle.std.specs.Prelude.{◌≡◌, true, List, ℕ, length}
 use Rattle.std.proofs.lemmas.List.Edits.{sets}
 use Rattle.lists.specs.Pick.{pick}
-use Rattle.answer.specs.Refused.{fine}
-use Rattle.answer.specs.declared.Refusal.{Refusal}
+use Rattle.answer.specs.Refused.{Verdict, fine}
 use Rattle.form.specs.declared.Form.{Form}
 use Rattle.reader.specs.Reading.{read_form}
 use Rattle.record.specs.ReadFirst.{read_first}
@@ -13,17 +12,16 @@ use Rattle.writer.specs.Writing.{refusal_of}
 use Rattle.legal.specs.Loop.{loop_of, pair_of}
 use Rattle.legal.specs.Handed.{Handed}
 use Rattle.plans.specs.Pairs.{with_times}
-use Rattle.plans.specs.declared.Plan.{Plan}
-use Rattle.plans.specs.declared.Scheduled.{Scheduled}
+use Rattle.plans.specs.Outcome.{Plan, Scheduled}
 
 -- what a form is refused for, its form with the new pair, and the rotations that this takes
-module _ (asked : Form → Refusal) (planned : Form → Form) (turned : Form → ℕ) where
+module _ (asked : Form → Verdict) (planned : Form → Form) (turned : Form → ℕ) where
   -- what is refused of a form, with so much room
-  abbrev pub schedule_refusal : ℕ → Form → Refusal
+  abbrev pub schedule_refusal : ℕ → Form → Verdict
   schedule_refusal room f = pick (fine (asked f)) (refusal_of (planned f) room) (asked f)
 
   -- what is refused of a record, with so much room
-  unfoldable pub schedule_record : List ℕ → ℕ → Refusal
+  unfoldable pub schedule_record : List ℕ → ℕ → Verdict
   schedule_record s room = read_first s (schedule_refusal room)
 
   pub record RecordScheduled (s out out' : List ℕ) (r : Scheduled) : Type 0 where

@@ -3,18 +3,17 @@
 -- Assumes nothing.
 use Rattle.std.proofs.Math.Path.{◌≡◌, refl, ap}
 use Rattle.std.proofs.Common.{sym, subst, ◌∙◌, arith}
-use Rattle.std.specs.Prelude.{Bool, ◌≢◌, ℕ, ◌-◌, length}
+use Rattle.std.specs.Prelude.{Bool, ◌≢◌, ℕ, ◌-◌, length, None, Some}
 use Rattle.std.proofs.Math.Bool.{true, false}
 use mathlib.Core.List.{List, []}
 use Rattle.std.proofs.Math.ListN.{get_or}
 use borrow.Author.Tests.{eqb-true, eq-eqb}
 use Rattle.lists.specs.Pick.{pick, pick_true, pick-false}
-use Rattle.answer.specs.Refused.{number_of, fine, details}
+use Rattle.answer.specs.Refused.{Verdict, number_of, fine, details}
 use Rattle.answer.specs.Outcome.{edges_of, outcome_list, told_list, answer_list, told_of}
 use Rattle.answer.specs.Tally.{Tallies, told_cycle, told-edges, told-count}
 use Rattle.answer.specs.declared.Cycle.{Cycle}
 use Rattle.answer.specs.declared.Details.{Details}
-use Rattle.answer.specs.declared.Refusal.{Refusal}
 use Rattle.answer.specs.declared.Refusal.TheVariants as refusal
 use Rattle.reader.specs.Reading.{read_form}
 use Rattle.system.specs.System.{Losing}
@@ -22,9 +21,9 @@ use Rattle.legal.specs.Loop.{Loop, Pair, loop_of, pair_of}
 use Rattle.legal.specs.Legal.{Knot}
 use Rattle.legal.specs.Systems.{Impossible, paces}
 use Rattle.legal.specs.Handed.{Handed}
-use Rattle.floor.specs.declared.Floored.{Floored}
-use Rattle.floor_part.specs.declared.Part.{Part}
-use Rattle.floor_part.specs.declared.Part.TheVariants as part
+use Rattle.floor.specs.Outcome.{Floored}
+use Rattle.floor_part.specs.Parts.{Part}
+use Rattle.floor_part.specs.Parts as part
 use Rattle.floor.specs.Parts.{floor_length}
 use Rattle.floor_part.specs.Numbers.{part_number, part_class}
 use Rattle.floor.specs.Floor.{RecordFloored}
@@ -32,35 +31,35 @@ use Rattle.rsk_c.specs.Answered.{Answered, JudgeAnswered, FitAnswered, FirstAnsw
 
 -- ---- which refusal a number is, of those that a cycle stands beside
 
-record Cycled (r : Refusal) : Type 0 where
-  is_knot : number_of r ≡ 12 → r ≡ refusal.Knot
-  is_unfit : number_of r ≡ 14 → r ≡ refusal.NoRetiming
+record Cycled (r : Verdict) : Type 0 where
+  is_knot : number_of r ≡ 12 → r ≡ Some refusal.Knot
+  is_unfit : number_of r ≡ 14 → r ≡ Some refusal.NoRetiming
 
-others : (r : Refusal) → number_of r ≢ 12 → number_of r ≢ 14 → Cycled r
+others : (r : Verdict) → number_of r ≢ 12 → number_of r ≢ 14 → Cycled r
 others r a b = record { is_knot = λ e. absurd (a e); is_unfit = λ e. absurd (b e) }
 
-cycled : (r : Refusal) → Cycled r
-cycled refusal.None = others refusal.None (omega arith) (omega arith)
-cycled (refusal.Short a) = others (refusal.Short a) (omega arith) (omega arith)
-cycled (refusal.Mark a) = others (refusal.Mark a) (omega arith) (omega arith)
-cycled (refusal.Version a) = others (refusal.Version a) (omega arith) (omega arith)
-cycled (refusal.Count a) = others (refusal.Count a) (omega arith) (omega arith)
-cycled (refusal.Machine a) = others (refusal.Machine a) (omega arith) (omega arith)
-cycled (refusal.Node a) = others (refusal.Node a) (omega arith) (omega arith)
-cycled (refusal.Edge a) = others (refusal.Edge a) (omega arith) (omega arith)
-cycled (refusal.Start a) = others (refusal.Start a) (omega arith) (omega arith)
-cycled (refusal.Retiming a) = others (refusal.Retiming a) (omega arith) (omega arith)
-cycled (refusal.Tail a) = others (refusal.Tail a) (omega arith) (omega arith)
-cycled refusal.Bare = others refusal.Bare (omega arith) (omega arith)
-cycled refusal.Knot = record { is_knot = λ e. refl; is_unfit = λ e. absurd (omega arith) }
-cycled (refusal.Dependence a) = others (refusal.Dependence a) (omega arith) (omega arith)
-cycled refusal.NoRetiming = record { is_knot = λ e. absurd (omega arith); is_unfit = λ e. refl }
-cycled (refusal.Units a b) = others (refusal.Units a b) (omega arith) (omega arith)
-cycled (refusal.Size a) = others (refusal.Size a) (omega arith) (omega arith)
-cycled refusal.Long = others refusal.Long (omega arith) (omega arith)
-cycled (refusal.Room a) = others (refusal.Room a) (omega arith) (omega arith)
-cycled (refusal.Early a b c) = others (refusal.Early a b c) (omega arith) (omega arith)
-cycled (refusal.Busy a b c) = others (refusal.Busy a b c) (omega arith) (omega arith)
+cycled : (r : Verdict) → Cycled r
+cycled None = others None (omega arith) (omega arith)
+cycled (Some (refusal.Short a)) = others (Some (refusal.Short a)) (omega arith) (omega arith)
+cycled (Some (refusal.Mark a)) = others (Some (refusal.Mark a)) (omega arith) (omega arith)
+cycled (Some (refusal.Version a)) = others (Some (refusal.Version a)) (omega arith) (omega arith)
+cycled (Some (refusal.Count a)) = others (Some (refusal.Count a)) (omega arith) (omega arith)
+cycled (Some (refusal.Machine a)) = others (Some (refusal.Machine a)) (omega arith) (omega arith)
+cycled (Some (refusal.Node a)) = others (Some (refusal.Node a)) (omega arith) (omega arith)
+cycled (Some (refusal.Edge a)) = others (Some (refusal.Edge a)) (omega arith) (omega arith)
+cycled (Some (refusal.Start a)) = others (Some (refusal.Start a)) (omega arith) (omega arith)
+cycled (Some (refusal.Retiming a)) = others (Some (refusal.Retiming a)) (omega arith) (omega arith)
+cycled (Some (refusal.Tail a)) = others (Some (refusal.Tail a)) (omega arith) (omega arith)
+cycled (Some refusal.Bare) = others (Some refusal.Bare) (omega arith) (omega arith)
+cycled (Some refusal.Knot) = record { is_knot = λ e. refl; is_unfit = λ e. absurd (omega arith) }
+cycled (Some (refusal.Dependence a)) = others (Some (refusal.Dependence a)) (omega arith) (omega arith)
+cycled (Some refusal.NoRetiming) = record { is_knot = λ e. absurd (omega arith); is_unfit = λ e. refl }
+cycled (Some (refusal.Units a b)) = others (Some (refusal.Units a b)) (omega arith) (omega arith)
+cycled (Some (refusal.Size a)) = others (Some (refusal.Size a)) (omega arith) (omega arith)
+cycled (Some refusal.Long) = others (Some refusal.Long) (omega arith) (omega arith)
+cycled (Some (refusal.Room a)) = others (Some (refusal.Room a)) (omega arith) (omega arith)
+cycled (Some (refusal.Early a b c)) = others (Some (refusal.Early a b c)) (omega arith) (omega arith)
+cycled (Some (refusal.Busy a b c)) = others (Some (refusal.Busy a b c)) (omega arith) (omega arith)
 
 -- ---- what is told of a cycle
 
@@ -71,7 +70,7 @@ pub record CycleTold (g : Loop) (p : Pair) (number : ℕ) (list : List ℕ) : Ty
   pub impossible : number ≡ 14 → Impossible g p (told_cycle list)
   pub none : number ≢ 12 → number ≢ 14 → told_cycle list ≡ []
 
-module _ (A : Type 0) (meets : A → Type 0) (refused : A → Refusal) (told : A → Details) (cycle : A → Cycle) (number : ℕ) (list : List ℕ)
+module _ (A : Type 0) (meets : A → Type 0) (refused : A → Verdict) (told : A → Details) (cycle : A → Cycle) (number : ℕ) (list : List ℕ)
     (a : Answered A meets refused told cycle number list) where
   module _ (tallies : (x : A) → meets x → Tallies (cycle x)) where
     told_is : told_cycle list ≡ edges_of (cycle a.given)

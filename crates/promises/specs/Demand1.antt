@@ -1,44 +1,43 @@
 -- Demand 1. Every entry point ends with an answer or with the refusal that comes first, and a refusal alters no buffer.
 -- Each contract leaves one possibility: two answers that meet it on the same input, with the buffers they leave, are equal.
 -- Assumes nothing.
-use Rattle.std.specs.Prelude.{◌≡◌, true, false, List, ℕ, length, ◌≢◌, Bool, refl, ltb}
+use Rattle.std.specs.Prelude.{◌≡◌, true, false, List, ℕ, length, ◌≢◌, Bool, refl, ltb, None, Some}
 use Rattle.std.proofs.Common.{sym, ◌∙◌, true≢false, ap}
 use lib.Seq.{sets}
 use Rattle.lists.specs.Pick.{pick, pick-false}
-use Rattle.answer.specs.Refused.{number_of, fine}
+use Rattle.answer.specs.Refused.{Verdict, number_of, fine}
 use Rattle.form.specs.declared.Form.{Form}
-use Rattle.form.specs.declared.Added.{Added}
+use Rattle.form.specs.Outcome.{Added}
 use Rattle.form.specs.declared.Class.{Class}
 use Rattle.form.specs.declared.Node.{Node}
 use Rattle.form.specs.declared.Edge.{Edge}
 use Rattle.form.specs.Adding.{class_added, node_added, edge_added}
-use Rattle.reader.specs.declared.Record.{Record}
+use Rattle.reader.specs.Outcome.{Record}
 use Rattle.reader.specs.Reading.{read_form}
-use Rattle.writer.specs.declared.Written.{Written}
+use Rattle.writer.specs.Outcome.{Written}
 use Rattle.writer.specs.Writing.{refusal_of, written, buffer_after}
 use Rattle.rsk_c.specs.Rewrite.{rewritten, rewritten_out, rewritten_answer}
 use Rattle.answer.specs.declared.Cycle.{Cycle}
-use Rattle.answer.specs.declared.Refusal.{Refusal}
 use Rattle.answer.specs.declared.Refusal.TheVariants as refusal
 use Rattle.legal.specs.Loop.{Loop, Pair}
 use Rattle.legal.specs.Handed.{Handed}
-use Rattle.judge.specs.declared.Judged.{Judged}
+use Rattle.judge.specs.Outcome.{Ruling}
 use Rattle.judge.specs.Judgement.{RecordJudgement}
 use Rattle.fit.specs.Retimed.{fitted_form}
 use Rattle.fit.specs.Fitting.{fit_of, RecordFitted}
 use Rattle.writer.specs.Layout.{layout}
-use Rattle.plans.specs.declared.Scheduled.{Scheduled}
+use Rattle.plans.specs.Outcome.{Scheduled}
 use Rattle.plans.specs.Scheduling.{RecordScheduled, unturned}
 use Rattle.field.specs.Number.{Bytes}
-use Rattle.run.specs.declared.Ran.{Ran}
+use Rattle.run.specs.Outcome.{Stepped}
 use Rattle.run.specs.Running.{asked, steps_of, RecordRun}
-use Rattle.plain.specs.declared.Looped.{Looped}
+use Rattle.plain.specs.Outcome.{Looped}
 use Rattle.plain.specs.Answer.{RecordLooped}
 use Rattle.plain.specs.Only as loops
-use Rattle.floor.specs.declared.Floored.{Floored}
-use Rattle.floor_part.specs.declared.Part.TheVariants as part
+use Rattle.floor.specs.Outcome.{Floored}
+use Rattle.floor_part.specs.Parts as part
 use Rattle.floor.specs.Floor.{RecordFloored}
-use Rattle.listing.specs.declared.Listed.{Listed}
+use Rattle.listing.specs.Outcome.{Listed}
 use Rattle.listing.specs.Lines.{listing_of, listed, listed_buffer}
 
 -- what a definition gives is one thing
@@ -99,22 +98,22 @@ rewrite-refused s out e = go (fine (read_form s).refusal) e
     go false e = refl
 
 -- where no cycle is handed over, it is the empty one
-pub cycle-settled : (g : Loop) (p : Pair) (r q : Refusal) (c d : Cycle) → Handed g p r c → Handed g p q d → r ≡ q
-    → r ≢ refusal.Knot → r ≢ refusal.NoRetiming → c ≡ d
+pub cycle-settled : (g : Loop) (p : Pair) (r q : Verdict) (c d : Cycle) → Handed g p r c → Handed g p q d → r ≡ q
+    → r ≢ Some refusal.Knot → r ≢ Some refusal.NoRetiming → c ≡ d
 cycle-settled g p r q c d h k e a b = settled c d (h.none a b) (k.none (λ t. a (e ∙ t)) (λ t. b (e ∙ t)))
 
 -- judging: the refusal and its details are settled, and so is the cycle where none is handed over
-pub judge-settled : (s : List ℕ) (a b : Judged) → RecordJudgement s a → RecordJudgement s b
-    → (a.refusal ≡ b.refusal) × (a.refusal ≢ refusal.Knot → a.refusal ≢ refusal.NoRetiming → a.cycle ≡ b.cycle)
+pub judge-settled : (s : List ℕ) (a b : Ruling) → RecordJudgement s a → RecordJudgement s b
+    → (a.refusal ≡ b.refusal) × (a.refusal ≢ Some refusal.Knot → a.refusal ≢ Some refusal.NoRetiming → a.cycle ≡ b.cycle)
 judge-settled s a b p q =
     let same : a.refusal ≡ b.refusal = settled a.refusal b.refusal p.refusal q.refusal in
     (same, λ k n. cycle-settled _ _ _ _ _ _ p.handed q.handed same k n)
 
 -- first schedules, rotations and searches, whatever is asked and planned: all but the knot handed over
-module _ (asked : Form → Refusal) (planned : Form → Form) (turned : Form → ℕ) (s out : List ℕ) where
+module _ (asked : Form → Verdict) (planned : Form → Form) (turned : Form → ℕ) (s out : List ℕ) where
   pub schedule-settled : (after again : List ℕ) (a b : Scheduled) → RecordScheduled asked planned turned s out after a → RecordScheduled asked planned turned s out again b
       → (a.refusal ≡ b.refusal) × (a.size ≡ b.size) × (a.rotations ≡ b.rotations) × (after ≡ again)
-      × (a.refusal ≢ refusal.Knot → a.refusal ≢ refusal.NoRetiming → a.cycle ≡ b.cycle)
+      × (a.refusal ≢ Some refusal.Knot → a.refusal ≢ Some refusal.NoRetiming → a.cycle ≡ b.cycle)
   schedule-settled after again a b p q =
       let same : a.refusal ≡ b.refusal = settled a.refusal b.refusal p.refusal q.refusal in (
         same,
@@ -131,7 +130,7 @@ module _ (asked : Form → Refusal) (planned : Form → Form) (turned : Form →
 -- fitting: the refusal, the size and the buffer are settled, and so is the cycle where none is handed over
 pub fit-settled : (s out after again : List ℕ) (a b : Scheduled) → RecordFitted s out after a → RecordFitted s out again b
     → (a.refusal ≡ b.refusal) × (a.size ≡ b.size) × (a.rotations ≡ b.rotations) × (after ≡ again)
-    × (a.refusal ≢ refusal.Knot → a.refusal ≢ refusal.NoRetiming → a.cycle ≡ b.cycle)
+    × (a.refusal ≢ Some refusal.Knot → a.refusal ≢ Some refusal.NoRetiming → a.cycle ≡ b.cycle)
 fit-settled s out = schedule-settled fit_of fitted_form unturned s out
 
 -- a record that the fit refuses leaves the buffer as it was
@@ -139,7 +138,7 @@ pub fit_refused : (s out after : List ℕ) (a : Scheduled) → RecordFitted s ou
 fit_refused s out = schedule-refused fit_of fitted_form unturned s out
 
 -- a run: refusal, steps and both buffers
-pub run_settled : (s : List ℕ) (k : ℕ) (starts values finish values₁ finish₁ values₂ finish₂ : List ℕ) (a b : Ran)
+pub run_settled : (s : List ℕ) (k : ℕ) (starts values finish values₁ finish₁ values₂ finish₂ : List ℕ) (a b : Stepped)
     → RecordRun s k starts values finish values₁ finish₁ a → RecordRun s k starts values finish values₂ finish₂ b
     → (a.refusal ≡ b.refusal) × (a.steps ≡ b.steps) × (values₁ ≡ values₂) × (finish₁ ≡ finish₂)
 run_settled s k starts values finish values₁ finish₁ values₂ finish₂ a b p q =
@@ -151,7 +150,7 @@ run_settled s k starts values finish values₁ finish₁ values₂ finish₂ a b
     )
 
 -- what is refused before a run begins leaves both buffers as they were
-pub run-refused : (s : List ℕ) (k : ℕ) (starts values finish after after' : List ℕ) (a : Ran)
+pub run-refused : (s : List ℕ) (k : ℕ) (starts values finish after after' : List ℕ) (a : Stepped)
     → RecordRun s k starts values finish after after' a → fine (asked s k starts values finish) ≡ false → (after ≡ values) × (after' ≡ finish)
 run-refused s k starts values finish after after' a p e = (p.values-are ∙ pick-false _ _ _ e, p.finish-is ∙ pick-false _ _ _ e)
 
@@ -166,7 +165,7 @@ plain-refused s k starts before after a p e = p.untouched e
 -- the floor: refusal, floor and part are settled, and so is the cycle where none is handed over
 pub floor-settled : (s : List ℕ) (a b : Floored) → RecordFloored s a → RecordFloored s b
     → (a.refusal ≡ b.refusal) × (a.floor ≡ b.floor) × (a.part ≡ b.part)
-    × (a.refusal ≢ refusal.Knot → a.part ≢ part.Cycle → a.cycle ≡ b.cycle)
+    × (a.refusal ≢ Some refusal.Knot → a.part ≢ part.Cycle → a.cycle ≡ b.cycle)
 floor-settled s a b p q =
     let same : a.refusal ≡ b.refusal = settled a.refusal b.refusal p.refusal q.refusal in
     let named : a.part ≡ b.part = settled a.part b.part p.part (q.part ∙ ap (λ r. pick (fine r) (Rattle.floor.specs.Floor.part_of (Rattle.legal.specs.Loop.loop_of (read_form s).form)) part.None) (sym same)) in (
@@ -191,7 +190,7 @@ unfolding listed listed_buffer pick fine
 list-refused s out e = go (ltb (length out) (length (listing_of s))) e
   where
     go : (b : Bool)
-        → fine (pick {A = Listed} b (record { refusal = refusal.Room 0; size = 0 }) (record { refusal = refusal.None; size = length (listing_of s) })).refusal ≡ false
+        → fine (pick {A = Listed} b (record { refusal = Some (refusal.Room 0); size = 0 }) (record { refusal = None; size = length (listing_of s) })).refusal ≡ false
         → pick b out (lib.Seq.sets out 0 (listing_of s)) ≡ out
     go true e = refl
     go false e = absurd (true≢false e)

@@ -1,14 +1,14 @@
 -- Demand 2. Reading and writing records undo each other; the judge accepts exactly the legal pairs; a retiming is refused exactly where
 -- none exists, and one given has the least depth; no legal pair is shorter than the floor.
 -- Assumes nothing.
-use Rattle.std.specs.Prelude.{◌≡◌, true, false, List, ◌⊎◌, ℕ, ◌≤◌, length, get_or, take, ◌≢◌, ◌<◌, ◌*◌}
+use Rattle.std.specs.Prelude.{◌≡◌, true, false, List, ◌⊎◌, ℕ, ◌≤◌, length, get_or, take, ◌≢◌, ◌<◌, ◌*◌, None, Some}
 use Rattle.std.proofs.Common.{ap}
 use Rattle.answer.specs.Refused.{fine, number_of}
-use Rattle.answer.specs.declared.Refusal.TheVariants.{None}
 use Rattle.form.specs.declared.Form.{Form}
 use Rattle.form.specs.Places.{used, retiming_of}
 use Rattle.form.specs.Ranges.{WellFormed, Within}
 use Rattle.field.specs.Number.{Bytes}
+use Rattle.reader.specs.Outcome.{Record}
 use Rattle.reader.specs.Reading.{read_form}
 use Rattle.writer.specs.Layout.{layout}
 use Rattle.writer.specs.Writing.{refusal_of, written, buffer_after}
@@ -48,7 +48,6 @@ use Rattle.search.specs.Laws as searches
 use Rattle.fit.specs.Retimed.{fitted_form}
 use Rattle.fit.specs.Fitting.{fit_of}
 use Rattle.fit.specs.Laws as fitting
-use Rattle.floor_part.specs.declared.Part.TheVariants as part
 use Rattle.floor.specs.Parts.{latency_part, units_part, cycle_part, floor_length}
 use Rattle.floor.specs.Floor.{part_of}
 use Rattle.lists.specs.Fold.{sum_of}
@@ -86,7 +85,7 @@ read-used = reading.read-used
 -- the writer takes exactly the well-formed forms: what it refuses else is numbered 4 to 9, before Room
 pub well-formed-taken : (f : Form) → Held f → WellFormed f → fine (read_form (layout f)).refusal ≡ true
 unfolding fine
-well-formed-taken f h w = ap (λ (r : Rattle.reader.specs.declared.Record.Record). fine r.refusal) (writing.well-formed-written f h w)
+well-formed-taken f h w = ap (λ (r : Record). fine r.refusal) (writing.well-formed-written f h w)
 
 pub taken-well-formed : (f : Form) → Held f → fine (read_form (layout f)).refusal ≡ true → WellFormed f
 taken-well-formed = writing.written-well-formed
@@ -105,42 +104,42 @@ module _ (f : Form) (w : WellFormed f) where
   legal-accepted = judging.accepts-judge f w
 
   -- Bare exactly where there is no schedule
-  pub bare-unscheduled : judge_of f ≡ refusal.Bare → f.header.length ≡ 0
+  pub bare-unscheduled : judge_of f ≡ Some refusal.Bare → f.header.length ≡ 0
   bare-unscheduled = judging.judge-bare f w
 
-  pub unscheduled-bare : f.header.length ≡ 0 → judge_of f ≡ refusal.Bare
+  pub unscheduled-bare : f.header.length ≡ 0 → judge_of f ≡ Some refusal.Bare
   unscheduled-bare = judging.bare-judge f w
 
   -- else Knot exactly where a cycle of edges has delay sum 0
-  pub refused-knot : judge_of f ≡ refusal.Knot → (f.header.length ≢ 0) × ((es : List ℕ) × Knot (loop_of f) es)
+  pub refused-knot : judge_of f ≡ Some refusal.Knot → (f.header.length ≢ 0) × ((es : List ℕ) × Knot (loop_of f) es)
   refused-knot = judging.judge-knot f w
 
-  pub knot-refused : f.header.length ≢ 0 → (es : List ℕ) → Knot (loop_of f) es → judge_of f ≡ refusal.Knot
+  pub knot-refused : f.header.length ≢ 0 → (es : List ℕ) → Knot (loop_of f) es → judge_of f ≡ Some refusal.Knot
   knot-refused = judging.knot-judge f w
 
   -- else Dependence exactly with the lowest edge that breaks the edge rule
-  pub refused-dependence : (e : ℕ) → judge_of f ≡ refusal.Dependence e → (f.header.length ≢ 0) × Free (loop_of f) × LowestEdge (loop_of f) (pair_of f) e
+  pub refused-dependence : (e : ℕ) → judge_of f ≡ Some (refusal.Dependence e) → (f.header.length ≢ 0) × Free (loop_of f) × LowestEdge (loop_of f) (pair_of f) e
   refused-dependence = judging.judge-dependence f w
 
-  pub dependence-refused : (e : ℕ) → f.header.length ≢ 0 → Free (loop_of f) → LowestEdge (loop_of f) (pair_of f) e → judge_of f ≡ refusal.Dependence e
+  pub dependence-refused : (e : ℕ) → f.header.length ≢ 0 → Free (loop_of f) → LowestEdge (loop_of f) (pair_of f) e → judge_of f ≡ Some (refusal.Dependence e)
   dependence-refused = judging.dependence-judge f w
 
   -- else Units exactly with the lowest step that holds too much, and its lowest class
-  pub refused-units : (q c : ℕ) → judge_of f ≡ refusal.Units q c
+  pub refused-units : (q c : ℕ) → judge_of f ≡ Some (refusal.Units q c)
       → (f.header.length ≢ 0) × Free (loop_of f) × EdgeRules (loop_of f) (pair_of f) × LowestOver (loop_of f) (pair_of f) q c
   refused-units = judging.judge-units f w
 
   pub units-refused : (q c : ℕ) → f.header.length ≢ 0 → Free (loop_of f) → EdgeRules (loop_of f) (pair_of f) → LowestOver (loop_of f) (pair_of f) q c
-      → judge_of f ≡ refusal.Units q c
+      → judge_of f ≡ Some (refusal.Units q c)
   units-refused = judging.units-judge f w
 
   -- ---- the fit, of a well-formed form
 
   -- NoRetiming exactly where there is a schedule, no knot, and no retiming fits the starts
-  pub unfit-impossible : fit_of f ≡ refusal.NoRetiming → (f.header.length ≢ 0) × Free (loop_of f) × ((r : ℕ → ℕ) → Fits (loop_of f) (pair_of f) r → ⊥)
+  pub unfit-impossible : fit_of f ≡ Some refusal.NoRetiming → (f.header.length ≢ 0) × Free (loop_of f) × ((r : ℕ → ℕ) → Fits (loop_of f) (pair_of f) r → ⊥)
   unfit-impossible = fitting.fit-impossible f w
 
-  pub impossible-unfitted : f.header.length ≢ 0 → Free (loop_of f) → ((r : ℕ → ℕ) → Fits (loop_of f) (pair_of f) r → ⊥) → fit_of f ≡ refusal.NoRetiming
+  pub impossible-unfitted : f.header.length ≢ 0 → Free (loop_of f) → ((r : ℕ → ℕ) → Fits (loop_of f) (pair_of f) r → ⊥) → fit_of f ≡ Some refusal.NoRetiming
   impossible-unfitted = fitting.impossible-fit f w
 
   -- what is answered is a legal pair, which the judge accepts

@@ -1,11 +1,10 @@
 -- Demand 3. What the judge accepts runs, step for step, to the plain loop's values; what it refuses gets stuck.
 -- Assumes nothing.
-use Rattle.std.specs.Prelude.{◌≡◌, true, ◌≢◌, List, ℕ, suc, ◌+◌, ◌*◌, ◌≤◌, ◌<◌, eqb, ltb, length, get_or}
+use Rattle.std.specs.Prelude.{◌≡◌, true, ◌≢◌, List, ℕ, suc, ◌+◌, ◌*◌, ◌≤◌, ◌<◌, eqb, ltb, length, get_or, None}
 use Rattle.std.proofs.Math.Path.{refl, sym, ap, subst}
 use Rattle.std.proofs.Common.{◌∙◌, arith, ne_eqb, le-ltb}
 use Rattle.lists.specs.Pick.{pick_true, pick-false}
 use Rattle.answer.specs.Refused.{fine}
-use Rattle.answer.specs.declared.Refusal.TheVariants.{None}
 use Rattle.form.specs.declared.Form.{Form}
 use Rattle.form.specs.Ranges.{WellFormed}
 use Rattle.field.specs.Number.{Bytes}
@@ -18,7 +17,7 @@ use Rattle.legal.specs.Knots.{Free}
 use Rattle.legal.specs.Paced.{legal-free}
 use Rattle.legal.specs.Judging.{judge_of}
 use Rattle.legal.specs.Judged as judging
-use Rattle.judge.specs.declared.Judged.{Judged}
+use Rattle.judge.specs.Outcome.{Ruling}
 use Rattle.judge.specs.Judgement.{judge_record, RecordJudgement}
 use Rattle.machine.specs.Values.{place_of}
 use Rattle.machine.specs.Plain.{PlainLoop}
@@ -27,9 +26,9 @@ use Rattle.machine.specs.Unique.{unique}
 use Rattle.machine.specs.Begins.{blank}
 use Rattle.machine.specs.Ended.{KeptFrom, EndsAt, ended, values-kept, finish-kept}
 use Rattle.machine.specs.Judges as judges
-use Rattle.plain.specs.declared.Looped.{Looped}
+use Rattle.plain.specs.Outcome.{Looped}
 use Rattle.plain.specs.Answer.{RecordLooped}
-use Rattle.run.specs.declared.Ran.{Ran}
+use Rattle.run.specs.Outcome.{Stepped}
 use Rattle.run.specs.Running.{room_asked, run_asked, asked, ran_of, RecordRun}
 
 -- a well-formed form, any start values, any number of iterations, any buffers with room for them
@@ -59,7 +58,7 @@ plain-one = unique
 -- ---- the same, of what the entry points answer for a record
 
 module _ (s : List ℕ) (bytes : Bytes s) (k : ℕ) (starts values₀ finish₀ values finish : List ℕ)
-    (r : Ran) (ran : RecordRun s k starts values₀ finish₀ values finish r)
+    (r : Stepped) (ran : RecordRun s k starts values₀ finish₀ values finish r)
     (lent : 15 * (read_form s).form.header.nodes ≤ length starts)
     (room : k * (read_form s).form.header.nodes ≤ length values₀)
     (room' : k * (read_form s).form.header.nodes ≤ length finish₀) where
@@ -87,7 +86,7 @@ module _ (s : List ℕ) (bytes : Bytes s) (k : ℕ) (starts values₀ finish₀ 
     finish-is : finish ≡ (ran_of (read_form s).form k starts values₀ finish₀).finish
     finish-is = ran.finish-is ∙ pick_true _ _ _ begun-fine
 
-  module _ (j : Judged) (judged : RecordJudgement s j) where
+  module _ (j : Ruling) (judged : RecordJudgement s j) where
     -- a record that the judge accepts was read, and its form is accepted
     accepts : j.refusal ≡ None → (fine (read_form s).refusal ≡ true) × (judge_of (read_form s).form ≡ None)
     unfolding judge_record fine

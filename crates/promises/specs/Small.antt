@@ -6,8 +6,7 @@ use Rattle.lists.specs.Span.{span}
 use Rattle.lists.specs.Filled.{filled}
 use Rattle.lists.specs.Fold.{sum_of, count, fold, top}
 use Rattle.lists.specs.First.{first_from}
-use Rattle.answer.specs.Refused.{number_of, details_of, fine}
-use Rattle.answer.specs.declared.Refusal.{Refusal}
+use Rattle.answer.specs.Refused.{Verdict, number_of, details_of, fine}
 use Rattle.form.specs.declared.Form.{Form}
 use Rattle.form.specs.Places.{empty_form}
 use Rattle.system.specs.Rounds.{asks, raise, raise_all, raises, every_edge, round, settle_from, settled_of}
@@ -58,11 +57,11 @@ pub data Asked : Type 0 where
   run : ℕ → Form → Asked
 
 -- a refusal: its number and its details
-unfoldable pub told : Refusal → List ℕ
+unfoldable pub told : Verdict → List ℕ
 told r = number_of r ∷ (details_of r).first ∷ (details_of r).second ∷ (details_of r).third ∷ []
 
 -- what is refused, then, where nothing is, the rest of the answer
-unfoldable pub answer : Refusal → List ℕ → List ℕ
+unfoldable pub answer : Verdict → List ℕ → List ℕ
 answer r rest = told r ++ pick (fine r) rest []
 
 -- each edge's delays, and what its limit is less than these

@@ -1,6 +1,6 @@
 -- Marks that are counted, one edge met, a walk over the links that has come to an edge, levels, and the count at the end.
 -- Assumes nothing.
-use mathlib.Core.Path.{◌≡◌, refl, sym, ◌∙◌, ap, subst}
+use mathlib.Core.Path.{◌≡◌, sym, ◌∙◌, ap, subst}
 use mathlib.Core.Bool.{Bool, true}
 use mathlib.Core.List.{List, [], ◌∷◌, ◌++◌}
 use mathlib.Core.Logic.{◌⊎◌, inl, inr, ⊎_elim}
@@ -69,9 +69,6 @@ marked-nodes m n few inside =
 -- ---- one edge
 
 module _ (m q : List ℕ) (end head tight : ℕ) (k : Queued m q end) where
-  pub met-still : (tight ≡ 1 → Marked m head) → Met head tight m q end m q end
-  met-still h = record { queued = k; grows = omega arith; marks = h; keeps = λ u p. p; place-keeps = λ i l. refl; new = λ u p. inl p }
-
   module _ (l : head < 64) (not_yet : Marked m head → ⊥) where
     -- not all are marked, so the queue has room
     pub room : end < 64
@@ -230,7 +227,7 @@ module _ (g : Loop) (r : ℕ → ℕ) (v : ℕ) (m q : List ℕ) where
         w) (k.onward d in-d is-tight p);
   }
 
-  pub none-waits : (from to : ℕ) → from ≡ to → Marking g r v m q from to None → Marking g r v m q to to None
+  none-waits : (from to : ℕ) → from ≡ to → Marking g r v m q from to None → Marking g r v m q to to None
   none-waits from to e k = subst (λ (b : ℕ). Marking g r v m q b to None) e k
 
   walk-in : Joined g.graph → (s : ℕ) (es : List ℕ) (u : ℕ) → s < g.graph.nodes → Walk g.graph s es u → u < g.graph.nodes
@@ -293,8 +290,8 @@ module _ (v : ℕ) (inside : v < 64) where
       let long : length (replicate {A = ℕ} 64 0) ≡ 64 = length-replicate {A = ℕ} 64 0 in
       let place : (i : ℕ) → i < 1 → get_or begun i 0 ≡ v = λ i l. let here : i ≡ 0 = omega arith in rw here first-place in
       record {
-        marks_long = length-set (replicate 64 0) v 1 ∙ long;
-        queue_long = length-set (replicate 64 0) 0 v ∙ long;
+        marks_long = length-set (replicate 64 0) v 1;
+        queue_long = length-set (replicate 64 0) 0 v;
         counted = omega (
           arith,
           marked_more (replicate 64 0) v long inside (λ e. omega (arith, zeros-at 64 v)),

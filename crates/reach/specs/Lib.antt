@@ -3,3 +3,4 @@ pub mod Tables
 pub mod Reached
 pub mod Others
 pub mod Marking
+pub mod Ways

@@ -1,32 +1,32 @@
--- A table's loop: what holds while it goes, one turn of it, and its ends.
+-- A table's loop: what holds while it goes, one turn of it, and its ends; and the stages of a record, each from where the one before it ends.
 -- Assumes nothing.
+use Rattle.std.specs.Prelude.{Some, Result, Ok, Err, nat_eq, ◌||◌, take, drop}
+use Rattle.std.specs.List.{list_any}
+use Rattle.std.proofs.Common.{drop-cons, subst}
 use mathlib.Core.Path.{◌≡◌, refl, ap, sym, ◌∙◌}
 use mathlib.Core.Bool.{Bool, true, false}
 use mathlib.Core.List.{List, map}
-use lib.Dec.{ltb}
 use lib.ListN.{length, get_or, replicate, length-map}
-use Prim.Native.Nat.{ℕ, suc, ◌+◌, ◌*◌, ◌-◌, ◌<◌, ◌≤◌}
-use native.Mathlib.Nat.{mul-le-mul_left, mul-suc, sub-zero}
+use Prim.Native.Nat.{ℕ, zero, suc, ◌+◌, ◌*◌, ◌-◌, ◌<◌, ◌≤◌}
+use native.Mathlib.Nat.{mul-suc, mul-zero, add-zero, sub-zero}
 use native.Mathlib.Numerals.{add-one}
 use native.Mathlib.Omega.{arith}
 use borrow.Author.Rules.{rules}
 use borrow.Author.Tests.{le-ltb, lt-ltb, le-leb, lt-leb, eq-eqb, ne_eqb}
-use Rattle.lists.specs.Pick.{pick, pick_ind, both_ways}
-use Rattle.answer.specs.Refused.{fine}
-use Rattle.reader.specs.declared.Reading.{Reading}
+use Rattle.lists.specs.Pick.{pick, pick-false}
+use Rattle.answer.specs.Refused.{fine, refused_fine}
 use Rattle.answer.specs.declared.Refusal.{Refusal}
-use Rattle.answer.specs.declared.Refusal.TheVariants.{None, Tail}
+use Rattle.reader.specs.Outcome.{Reading}
 use Rattle.form.specs.declared.Form.{Form}
-use Rattle.form.specs.Places.{no_step, empty_form, with_counts, scheduled, scheduled_of, with_classes, with_nodes, with_edges, with_starts, with_header}
-use Rattle.reader.specs.declared.Prefix.{Prefix}
-use Rattle.reader.specs.declared.Record.{Record}
-use Rattle.reader.specs.declared.Counts.{Counts}
-use Rattle.reader.specs.declared.ClassTable.{ClassTable}
-use Rattle.reader.specs.declared.NodeTable.{NodeTable}
+use Rattle.form.specs.declared.Header.{Header}
+use Rattle.form.specs.declared.Class.{Class}
+use Rattle.form.specs.declared.Node.{Node}
+use Rattle.form.specs.Places.{no_class, no_node, empty_form, with_header, with_classes, with_nodes, scheduled, scheduled_of}
+use Rattle.form.specs.Offsets.{nodes_at, edges_at, starts_at}
 use Rattle.reader.specs.declared.EdgeTable.{EdgeTable}
 use Rattle.reader.specs.declared.StartTable.{StartTable}
-use Rattle.reader.specs.Tables.{header_of, table, class_step, node_step, edge_step, start_step, Headed, Stage, ClassesRead, NodesRead, EdgesRead, StartsRead}
-use Rattle.reader.specs.Reading.{zero_from, retiming_offset, classes_read, nodes_read, edges_read, starts_read, end_of, fronted, prefix_of, tail_of, answered, read_form}
+use Rattle.reader.specs.Tables.{header_of, table, class_step, node_step, edge_step, start_step, reading, Staged, TableRead, ClassesRead, NodesRead, EdgesRead, StartsRead, no_edges, with_edge_rows, no_starts, with_start_rows}
+use Rattle.reader.specs.Reading.{classes_read, nodes_read, edges_read, starts_read, TablesRead, zero_from, some_zero}
 
 -- an array of structs as a field: its length, from what owning the struct tells
 pub length-mapped : {X Y : Type 0} (f : X → Y) (l : List X) (n : ℕ) → length (map f l) ≡ n → length l ≡ n
@@ -35,169 +35,136 @@ length-mapped f l n p = sym (length-map l f) ∙ p
 -- a definition's tests, settled from what a branch showed
 pub ruleset tests = (rules, length-mapped, le-ltb, lt-ltb, le-leb, lt-leb, eq-eqb, ne_eqb)
 
--- row i of n is next: the rest of the table is the whole, and no row is wider than `width`
-pub record Going (step : ℕ → Reading → Reading) (n : ℕ) (x : Reading) (width i : ℕ) (y : Reading) : Type 0 where
-  pub within : i ≤ n
-  pub rest : table step (n - i) i y ≡ table step n 0 x
-  pub near : y.next.at ≤ x.next.at + width * i
+-- after a refusal no row is read
+pub table-refused : (step : ℕ → Reading → Reading) (n i : ℕ) (x : Reading) (e : Refusal) → x.next.refusal ≡ Some e → table step n i x ≡ x
+unfolding table
+table-refused step zero i x e p = refl
+table-refused step (suc n) i x e p = pick-false _ _ _ (ap fine p ∙ refused_fine e)
 
-module _ (step : ℕ → Reading → Reading) (n : ℕ) (x : Reading) (width : ℕ) where
-  pub begin : Going step n x width 0 x
-  begin = record { within = omega arith; rest = rw sub-zero; near = omega arith }
+-- row i of n is next: the rest of the table is the whole
+pub record Going {A : Type 0} (step : ℕ → Reading → Reading) (n width at : ℕ) (made : A → Form) (none : A) (i : ℕ) (a : A) : Type 0 where
+  pub rest : table step (n - i) i (reading (made a) (at + width * i)) ≡ table step n 0 (reading (made none) at)
 
-  module _ (i : ℕ) (y : Reading) (g : Going step n x width i y) where
-    ends : table step (n - i) i y ≡ y → Stage step n x width y
-    ends e = record { is = sym e ∙ g.rest; near = omega (arith, g.near, mul-le-mul_left width g.within) }
+module _ {A : Type 0} {step : ℕ → Reading → Reading} {n width at : ℕ} {made : A → Form} {none : A} where
+  pub begin : Going step n width at made none 0 none
+  begin = record { rest = rw (sub-zero, mul-zero, add-zero) }
 
-    -- a refused row ends the table
-    pub stop : i < n → fine y.next.refusal ≡ false → Stage step n x width y
-    unfolding table pick
-    stop h f =
+  module _ {i : ℕ} {a : A} (g : Going step n width at made none i a) where
+    -- the table from the row on
+    here : i < n → table step (n - (i + 1)) (i + 1) (step i (reading (made a) (at + width * i))) ≡ table step n 0 (reading (made none) at)
+    unfolding table pick fine
+    here h =
         let left : n - i ≡ suc (n - (i + 1)) = omega arith in
-        ends (rw (left, table, f))
+        rw (left, table) at g.rest
+
+    -- a row that is refused ends the table
+    pub stop : i < n → (e : Refusal) → (step i (reading (made a) (at + width * i))).next.refusal ≡ Some e → TableRead step n width at made none (Err e)
+    stop h e p = ap (λ (x : Reading). x.next.refusal) (sym (here h) ∙ table-refused step _ _ _ e p) ∙ p
+
+    -- one row more
+    pub turn : i < n → (b : A) → step i (reading (made a) (at + width * i)) ≡ reading (made b) (at + width * i + width)
+        → Going step n width at made none (i + 1) b
+    turn h b e =
+        let past : at + width * (i + 1) ≡ at + width * i + width = rw (add-one, mul-suc) (omega arith) in
+        record { rest = rw (past, ← e) (here h) }
 
     -- the last row is read
-    pub finish : n ≤ i → Stage step n x width y
+    pub finish : i ≡ n → TableRead step n width at made none (Ok a)
     unfolding table
-    finish h =
+    finish e =
         let left : n - i ≡ 0 = omega arith in
-        ends (rw (left, table))
+        rw (left, table, e) at g.rest
 
-    -- one row more, no wider than `width`
-    pub turn : i < n → fine y.next.refusal ≡ true → (z : Reading) → z ≡ step i y → z.next.at ≤ y.next.at + width → Going step n x width (i + 1) z
-    unfolding table pick
-    turn h f z e w =
-        let left : n - i ≡ suc (n - (i + 1)) = omega arith in
-        record {
-          within = omega arith;
-          rest = rw e (sym (rw (left, table, f)) ∙ g.rest);
-          near = rw (add-one, mul-suc) (omega (arith, w, g.near));
-        }
+-- ---- the stages of a record
+
+module _ (s : List ℕ) where
+  -- whatever stage refuses, those after it keep its refusal
+  module _ (e : Refusal) where
+    stays : (step : ℕ → Reading → Reading) (n i : ℕ) (x : Reading) → x.next.refusal ≡ Some e → (table step n i x).next.refusal ≡ Some e
+    stays step n i x p = ap (λ (y : Reading). y.next.refusal) (table-refused step n i x e p) ∙ p
+
+    pub starts-refused : (starts_read s).next.refusal ≡ Some e → TablesRead s (Err e)
+    starts-refused p = record { is = p; few = tt; near = tt }
+
+    pub edges-refused : (edges_read s).next.refusal ≡ Some e → TablesRead s (Err e)
+    unfolding starts_read
+    edges-refused p = starts-refused (stays _ _ _ _ p)
+
+    pub nodes-refused : (nodes_read s).next.refusal ≡ Some e → TablesRead s (Err e)
+    unfolding edges_read
+    nodes-refused p = edges-refused (stays _ _ _ _ p)
+
+    pub classes-refused : (classes_read s).next.refusal ≡ Some e → TablesRead s (Err e)
+    unfolding nodes_read
+    classes-refused p = nodes-refused (stays _ _ _ _ p)
+
+    pub header-refused : (header_of s).next.refusal ≡ Some e → TablesRead s (Err e)
+    unfolding classes_read
+    header-refused p = classes-refused (stays _ _ _ _ p)
+
+-- the form that the stages make, table by table
+abbrev counted : Header → Form
+counted h = with_header empty_form h
+
+abbrev classed : Header → List Class → Form
+classed h k = with_classes (counted h) k
+
+abbrev noded : Header → List Class → List Node → Form
+noded h k v = with_nodes (classed h k) v
+
+abbrev edged : Header → List Class → List Node → EdgeTable → Form
+edged h k v t = with_edge_rows (noded h k v) t
+
+abbrev placed : Header → List Class → List Node → EdgeTable → StartTable → Form
+placed h k v t x = with_start_rows (edged h k v t) x
+
+-- a table read from where the stage before it ends is the next stage
+staged : {A : Type 0} (step : ℕ → Reading → Reading) (count : Form → ℕ) (width at : ℕ) (made : A → Form) (none : A) (x : Reading) → reading (made none) at ≡ x
+    → (r : Result A Refusal) → TableRead step (count (made none)) width at made none r
+    → Staged (λ a. reading (made a) (at + width * count (made none))) (table step (count x.form) 0 x) r
+staged step count width at made none x e r t =
+    let P : Reading → Type 0 = λ y. Staged (λ a. reading (made a) (at + width * count (made none))) (table step (count y.form) 0 y) r in
+    subst P e t
+
+module _ (s : List ℕ) (h : Header) (eh : reading (counted h) 11 ≡ header_of s) where
+  pub classes-staged : (r : Result (List Class) Refusal) → ClassesRead s 11 h.classes r → Staged (λ k. reading (classed h k) (nodes_at h)) (classes_read s) r
+  unfolding classes_read empty_form
+  classes-staged r t = staged (class_step s) (λ f. f.header.classes) 3 11 (classed h) (replicate 4 no_class) (header_of s) eh r (t (counted h))
+
+  module _ (k : List Class) (ks : ClassesRead s 11 h.classes (Ok k)) where
+    pub nodes-staged : (r : Result (List Node) Refusal) → NodesRead s (nodes_at h) h.classes h.nodes r → Staged (λ v. reading (noded h k v) (edges_at h)) (nodes_read s) r
+    unfolding nodes_read empty_form
+    nodes-staged r t =
+        staged (node_step s) (λ f. f.header.nodes) 6 (nodes_at h) (noded h k) (replicate 64 no_node) (classes_read s) (classes-staged (Ok k) ks) r (t (classed h k) refl)
+
+    module _ (v : List Node) (vs : NodesRead s (nodes_at h) h.classes h.nodes (Ok v)) where
+      pub edges-staged : (r : Result EdgeTable Refusal) → EdgesRead s (edges_at h) h.nodes h.edges r → Staged (λ g. reading (edged h k v g) (starts_at h)) (edges_read s) r
+      unfolding edges_read empty_form
+      edges-staged r t =
+          staged (edge_step s) (λ f. f.header.edges) 3 (edges_at h) (edged h k v) no_edges (nodes_read s) (nodes-staged (Ok v) vs) r (t (noded h k v) refl)
+
+      module _ (g : EdgeTable) (gs : EdgesRead s (edges_at h) h.nodes h.edges (Ok g)) (n : ℕ) (en : n ≡ scheduled_of h.length h.nodes) where
+        pub starts-staged : (r : Result StartTable Refusal) → StartsRead s (starts_at h) h.length k v n r
+            → Staged (λ x. reading (placed h k v g x) (starts_at h + 3 * n)) (starts_read s) r
+        unfolding starts_read empty_form
+        starts-staged r =
+            let P : ℕ → Type 0 = λ m. StartsRead s (starts_at h) h.length k v m r → Staged (λ x. reading (placed h k v g x) (starts_at h + 3 * m)) (starts_read s) r in
+            subst P (sym en) (λ t.
+            staged (start_step s) scheduled 3 (starts_at h) (placed h k v g) no_starts (edges_read s) (edges-staged (Ok g) gs) r (t (edged h k v g) refl refl refl))
 
 -- ---- looking for a retiming 0
 
-module _ (n i : ℕ) (rs : List ℕ) (whole : Bool) where
-  pub zero-here : i < n → get_or rs i 0 ≡ 0 → zero_from (n - i) i rs ≡ whole → true ≡ whole
-  unfolding zero_from pick
-  zero-here h z e =
-      let left : n - i ≡ suc (n - (i + 1)) = omega arith in
-      simp (eq-eqb (get_or rs i 0) 0 z) at (rw left at e)
-
-  pub zero-later : i < n → (get_or rs i 0 ≡ 0 → ⊥) → zero_from (n - i) i rs ≡ whole → zero_from (n - (i + 1)) (i + 1) rs ≡ whole
-  unfolding zero_from pick
-  zero-later h z e =
-      let left : n - i ≡ suc (n - (i + 1)) = omega arith in
-      simp (ne_eqb (get_or rs i 0) 0 z) at (rw left at e)
-
-  pub zero-none : n ≤ i → zero_from (n - i) i rs ≡ whole → false ≡ whole
-  unfolding zero_from
-  zero-none h e =
-      let left : n - i ≡ 0 = omega arith in
-      rw left at e
-
--- ---- the whole record
-
-pub staged : (s : List ℕ) (h k v e x : Reading) (n : ℕ) → h ≡ header_of s → k ≡ table (class_step s) h.form.header.classes 0 h
-    → v ≡ table (node_step s) k.form.header.nodes 0 k → e ≡ table (edge_step s) v.form.header.edges 0 v → n ≡ scheduled e.form
-    → x ≡ table (start_step s) n 0 e → x ≡ starts_read s
-unfolding classes_read nodes_read edges_read starts_read
-staged s h k v e x n eh ek ev ee en ex = rw (ex, en, ee, ev, ek, eh)
-
--- a record of which something is refused ends nowhere
-tail-picked : (b : Bool) (at n : ℕ) (r : Refusal) → pick b (pick (ltb at n) (Tail at) None) r ≡ pick b (pick (ltb (pick b at 0) n) (Tail (pick b at 0)) None) r
+pick_or : (b x : Bool) → pick b true x ≡ (b || x)
 unfolding pick
-tail-picked true at n r = refl
-tail-picked false at n r = refl
+pick_or true x = refl
+pick_or false x = refl
 
--- where the first of two refuses nothing, neither of them does
-first_fine : (r t q : Refusal) → q ≡ pick (fine r) t r → fine q ≡ true → fine r ≡ true
-first_fine r t q e b = pick_ind (λ p. fine p ≡ true → fine r ≡ true) (fine r) t r (λ f g. f) (λ f g. both_ways g f) (ap fine (sym e) ∙ b)
+-- one of the numbers from i on is 0: what a slice's `contains` answers
+zero_any : (n i : ℕ) (rs : List ℕ) → i + n ≤ length rs → zero_from n i rs ≡ list_any (λ y. nat_eq y 0) (take n (drop i rs))
+unfolding zero_from pick
+zero_any zero i rs h = refl
+zero_any (suc n) i rs h = rw (zero_any n (i + 1) rs (omega arith), drop-cons rs i 0 (omega arith), add-one) (pick_or (nat_eq (get_or rs i 0) 0) _)
 
--- what is refused at the front, then what is left past it
-module _ (s : List ℕ) (x : Reading) (ex : x ≡ starts_read s) (r : Refusal) (er : r ≡ end_of x) where
-  front-refused : (n : ℕ) (f : Form) → fine r ≡ false → n ≡ 0 → f ≡ empty_form → ◌≡◌ {A = Prefix} (record { refusal = r; size = n; form = f }) (prefix_of s)
-  unfolding prefix_of fronted pick
-  front-refused n f b en ef = rw (← ex, ← er, b, en, ef)
-
-  front-fine : fine r ≡ true → ◌≡◌ {A = Prefix} (record { refusal = r; size = x.next.at; form = x.form }) (prefix_of s)
-  unfolding prefix_of fronted pick
-  front-fine b = rw (← ex, ← er, b)
-
-  module _ (t q : Refusal) (et : t ≡ pick (ltb x.next.at (length s)) (Tail x.next.at) None) (eq : q ≡ pick (fine r) t r) where
-    tail-is : q ≡ tail_of s (prefix_of s)
-    unfolding tail_of prefix_of fronted
-    tail-is = rw (← ex, ← er, eq, et) (tail-picked (fine r) x.next.at (length s) r)
-
-    read-refused : (f : Form) → fine q ≡ false → f ≡ empty_form → ◌≡◌ {A = Record} (record { refusal = q; form = f }) (read_form s)
-    unfolding read_form answered pick
-    read-refused f b e = rw (← tail-is, b, e)
-
-    read-fine : fine q ≡ true → ◌≡◌ {A = Record} (record { refusal = q; form = x.form }) (read_form s)
-    unfolding read_form answered pick
-    read-fine b = rw (← tail-is, b) (ap (λ (p : Prefix). record { refusal = q; form = p.form }) (front-fine (first_fine r t q eq b)))
-
--- the tables, each read from where the one before it ends, and how far they reach
-module _ (s : List ℕ) (h : Counts) (headed : Headed s h) (k : ClassTable) (ks : ClassesRead s h.next h.header.classes k) where
-  pub classes-end : k.next.at ≤ 23
-  classes-end = omega (arith, headed.few_classes, headed.near, (ks empty_form).near)
-
-  module _ (v : NodeTable) (ns : NodesRead s k.next h.header.classes h.header.nodes v) where
-    pub nodes-end : v.next.at ≤ 407
-    nodes-end = omega (arith, headed.few_nodes, classes-end, (ns (with_counts empty_form h.header.classes 0 0 0) refl).near)
-
-    module _ (e : EdgeTable) (es : EdgesRead s v.next h.header.nodes h.header.edges e) where
-      pub edges-end : e.next.at ≤ 1175
-      edges-end = omega (arith, headed.few_edges, nodes-end, (es (with_counts empty_form 0 h.header.nodes 0 0) refl).near)
-
-      module _
-          (n : ℕ)
-          (en : (n ≡ scheduled_of h.header.length h.header.nodes) × (n ≤ h.header.nodes))
-          (x : StartTable)
-          (ss : StartsRead s e.next h.header.length k.class v.node n x) where
-        pub starts-end : x.next.at ≤ 1367
-        starts-end =
-            omega (arith, headed.few_nodes, en.1, edges-end, (ss (with_nodes (with_classes (with_counts empty_form 0 0 0 h.header.length) k.class) v.node) refl refl refl).near)
-
-        abbrev counted : Form
-        counted = with_header empty_form h.header
-
-        -- the form that they make, and the cursor past them
-        abbrev pub whole : Reading
-        whole = record {
-          form = with_starts (with_edges (with_nodes (with_classes counted k.class) v.node) e.from e.to e.delays) x.start x.retiming;
-          next = x.next;
-        }
-
-        pub whole-read : whole ≡ starts_read s
-        unfolding empty_form
-        whole-read =
-            let classed = with_classes counted k.class in
-            let noded = with_nodes classed v.node in
-            let edged = with_edges noded e.from e.to e.delays in
-            staged s
-            (record { form = counted; next = h.next })
-            (record { form = classed; next = k.next })
-            (record { form = noded; next = v.next })
-            (record { form = edged; next = e.next })
-            whole n headed.is (ks counted).is (ns classed refl).is (es noded refl).is en.0 (ss edged refl refl refl).is
-
-        module _ (r : Refusal) (er : r ≡ end_of (record { form = with_starts counted (replicate 64 no_step) x.retiming; next = x.next })) where
-          end_is : r ≡ end_of whole
-          unfolding end_of retiming_offset
-          end_is = er
-
-          -- a refused record comes with the empty form
-          pub prefix-refused : fine r ≡ false → (a : Prefix) → a.refusal ≡ r → a.size ≡ 0 → a.form ≡ empty_form → a ≡ prefix_of s
-          prefix-refused b a ea en ef = front-refused s whole whole-read a.refusal (ea ∙ end_is) a.size a.form (ap fine ea ∙ b) en ef
-
-          -- any other with what was read
-          pub prefix-fine : fine r ≡ true → ◌≡◌ {A = Prefix} (record { refusal = r; size = x.next.at; form = whole.form }) (prefix_of s)
-          prefix-fine b = front-fine s whole whole-read r end_is b
-
-          module _ (t : Refusal) (et : t ≡ pick (ltb x.next.at (length s)) (Tail x.next.at) None) (q : Refusal) (eq : q ≡ pick (fine r) t r) where
-            -- and so where no byte may be left
-            pub answered-refused : fine q ≡ false → (a : Record) → a.refusal ≡ q → a.form ≡ empty_form → a ≡ read_form s
-            answered-refused b a ea ef = read-refused s whole whole-read r end_is t a.refusal et (ea ∙ eq) a.form (ap fine ea ∙ b) ef
-
-            pub answered-fine : fine q ≡ true → ◌≡◌ {A = Record} (record { refusal = q; form = whole.form }) (read_form s)
-            answered-fine b = read-fine s whole whole-read r end_is t q et eq b
+pub zero_contained : (n : ℕ) (rs : List ℕ) → n ≤ length rs → some_zero n rs ≡ list_any (λ y. nat_eq y 0) (take n rs)
+unfolding some_zero
+zero_contained n rs h = zero_any n 0 rs (omega arith)

@@ -1,22 +1,20 @@
 -- The header and the tables of a record: row after row until one is refused.
 -- Assumes nothing.
-use Rattle.std.specs.Prelude.{◌≡◌, List, ℕ, zero, suc, ◌+◌, ◌*◌, ◌≤◌, replicate}
+use Rattle.std.specs.Prelude.{◌≡◌, List, ℕ, zero, suc, ◌+◌, ◌*◌, ◌≤◌, replicate, Result, IfOk}
 use Rattle.lists.specs.Pick.{pick}
 use Rattle.answer.specs.Refused.{fine}
+use Rattle.answer.specs.declared.Refusal.{Refusal}
 use Rattle.form.specs.declared.Form.{Form}
+use Rattle.form.specs.declared.Header.{Header}
 use Rattle.form.specs.declared.Class.{Class}
 use Rattle.form.specs.declared.Node.{Node}
 use Rattle.form.specs.Places.{no_class, no_node, no_step, empty_form, latency_of, with_counts, with_class, with_node, with_edge, with_start, with_classes, with_nodes, with_edges, with_starts, with_header}
-use Rattle.field.specs.declared.Cursor.{Cursor}
-use Rattle.field.specs.declared.Taken.{Taken}
+use Rattle.field.specs.Outcome.{Taken, Reads}
 use Rattle.field.specs.declared.Kind.TheVariants.{Mark, Version, Count}
 use Rattle.field.specs.Taking.{taken, onward}
-use Rattle.reader.specs.declared.Counts.{Counts}
-use Rattle.reader.specs.declared.ClassTable.{ClassTable}
-use Rattle.reader.specs.declared.NodeTable.{NodeTable}
 use Rattle.reader.specs.declared.EdgeTable.{EdgeTable}
 use Rattle.reader.specs.declared.StartTable.{StartTable}
-use Rattle.reader.specs.declared.Reading.{Reading}
+use Rattle.reader.specs.Outcome.{Reading}
 use Rattle.rows.specs.Rows.{class_at, node_at, edge_at, start_at}
 
 -- the mark "RSK" as one number of three bytes, version 1, then C, N, E and L
@@ -75,42 +73,51 @@ start_step s v x = record {
   next = (start_at s x.next x.form.header.length (latency_of x.form v)).next;
 }
 
--- the header read, with the bounds that the tables need
-pub record Headed (s : List ℕ) (h : Counts) : Type 0 where
-  pub is : ◌≡◌ {A = Reading} (record { form = with_header empty_form h.header; next = h.next }) (header_of s)
-  pub few_classes : h.header.classes ≤ 4
-  pub few_nodes : h.header.nodes ≤ 64
-  pub few_edges : h.header.edges ≤ 256
-  pub short : h.header.length ≤ 512
-  pub near : h.next.at ≤ 11
+-- a form that is read up to an offset
+abbrev pub reading : Form → ℕ → Reading
+reading f at = record { form = f; next = onward at }
 
--- a table read, with rows of a width at most: the cursor moves no further than the rows reach
-pub record Stage (step : ℕ → Reading → Reading) (n : ℕ) (x : Reading) (width : ℕ) (r : Reading) : Type 0 where
-  pub is : r ≡ table step n 0 x
-  pub near : r.next.at ≤ x.next.at + width * n
+-- what a stage of the reading answers, from its value: the form and the offset past it, as the definition makes them, or the definition's refusal
+abbrev pub Staged : {A : Type 0} → (A → Reading) → Reading → Result A Refusal → Type 0
+Staged made whole = Reads made (λ (x : Reading). x.next) whole
 
--- each table, read into whatever form holds the counts: from an empty one at the cursor to what comes back
-abbrev pub ClassesRead : List ℕ → Cursor → ℕ → ClassTable → Type 0
-ClassesRead s at n r =
-    (f : Form) → Stage (class_step s) n (record { form = with_classes f (replicate 4 no_class); next = at }) 3 (record { form = with_classes f r.class; next = r.next })
+-- the counts of a header, as far as the tables go
+pub record Few (h : Header) : Type 0 where
+  pub classes : h.classes ≤ 4
+  pub nodes : h.nodes ≤ 64
+  pub edges : h.edges ≤ 256
+  pub length : h.length ≤ 512
 
-abbrev pub NodesRead : List ℕ → Cursor → ℕ → ℕ → NodeTable → Type 0
-NodesRead s at classes n r =
-    (f : Form) → f.header.classes ≡ classes
-    → Stage (node_step s) n (record { form = with_nodes f (replicate 64 no_node); next = at }) 6 (record { form = with_nodes f r.node; next = r.next })
+pub record Headed (s : List ℕ) (r : Result Header Refusal) : Type 0 where
+  pub is : Staged (λ h. reading (with_header empty_form h) 11) (header_of s) r
+  pub few : IfOk r Few
 
-abbrev pub EdgesRead : List ℕ → Cursor → ℕ → ℕ → EdgeTable → Type 0
-EdgesRead s at nodes n r =
-    (f : Form) → f.header.nodes ≡ nodes
-    → Stage (edge_step s) n
-    (record { form = with_edges f (replicate 256 0) (replicate 256 0) (replicate 256 0); next = at })
-    3
-    (record { form = with_edges f r.from r.to r.delays; next = r.next })
+-- a table of n rows of a width, read from an offset into a form that begins with none of them
+abbrev pub TableRead : {A : Type 0} → (ℕ → Reading → Reading) → ℕ → ℕ → ℕ → (A → Form) → A → Result A Refusal → Type 0
+TableRead step n width at made none = Staged (λ a. reading (made a) (at + width * n)) (table step n 0 (reading (made none) at))
 
-abbrev pub StartsRead : List ℕ → Cursor → ℕ → List Class → List Node → ℕ → StartTable → Type 0
+-- each table, read into whatever form holds the counts
+abbrev pub ClassesRead : List ℕ → ℕ → ℕ → Result (List Class) Refusal → Type 0
+ClassesRead s at n r = (f : Form) → TableRead (class_step s) n 3 at (with_classes f) (replicate 4 no_class) r
+
+abbrev pub NodesRead : List ℕ → ℕ → ℕ → ℕ → Result (List Node) Refusal → Type 0
+NodesRead s at classes n r = (f : Form) → f.header.classes ≡ classes → TableRead (node_step s) n 6 at (with_nodes f) (replicate 64 no_node) r
+
+abbrev pub no_edges : EdgeTable
+no_edges = record { from = replicate 256 0; to = replicate 256 0; delays = replicate 256 0 }
+
+abbrev pub with_edge_rows : Form → EdgeTable → Form
+with_edge_rows f t = with_edges f t.from t.to t.delays
+
+abbrev pub EdgesRead : List ℕ → ℕ → ℕ → ℕ → Result EdgeTable Refusal → Type 0
+EdgesRead s at nodes n r = (f : Form) → f.header.nodes ≡ nodes → TableRead (edge_step s) n 3 at (with_edge_rows f) no_edges r
+
+abbrev pub no_starts : StartTable
+no_starts = record { start = replicate 64 no_step; retiming = replicate 64 0 }
+
+abbrev pub with_start_rows : Form → StartTable → Form
+with_start_rows f t = with_starts f t.start t.retiming
+
+abbrev pub StartsRead : List ℕ → ℕ → ℕ → List Class → List Node → ℕ → Result StartTable Refusal → Type 0
 StartsRead s at l ks ns n r =
-    (f : Form) → f.header.length ≡ l → f.class ≡ ks → f.node ≡ ns
-    → Stage (start_step s) n
-    (record { form = with_starts f (replicate 64 no_step) (replicate 64 0); next = at })
-    3
-    (record { form = with_starts f r.start r.retiming; next = r.next })
+    (f : Form) → f.header.length ≡ l → f.class ≡ ks → f.node ≡ ns → TableRead (start_step s) n 3 at (with_start_rows f) no_starts r

@@ -14,7 +14,7 @@ use Rattle.form.specs.declared.Operation.TheVariants.{Add, Sub, Mul}
 use Rattle.form.specs.Places.{no_class, no_node, no_step, class_of, node_of, edge_of, start_of, retiming_of, scheduled_of, used}
 use Rattle.form.specs.Offsets.{classes_at, nodes_at, edges_at, starts_at}
 use Rattle.field.specs.Number.{number_at, bytes_of, number-front}
-use Rattle.reader.specs.declared.Reading.{Reading}
+use Rattle.reader.specs.Outcome.{Reading}
 use Rattle.writer.specs.Layout.{code_of, constant_of, class_bytes, node_bytes, edge_bytes, start_bytes, layout}
 use Rattle.record.specs.Held.{Held}
 use Rattle.record.specs.Rows.{slice_front}

@@ -4,16 +4,13 @@ use Rattle.std.specs.Prelude.{List, ltb, length}
 use Prim.Native.Nat.{ℕ, zero, suc, ◌+◌, ◌≤◌}
 use Rattle.std.proofs.Common.{arith}
 use Rattle.lists.specs.Pick.{pick_ind}
-use Rattle.answer.specs.Refused.{number_of, fine}
-use Rattle.answer.specs.declared.Refusal.{Refusal}
+use Rattle.answer.specs.Refused.{Verdict, number_of, fine}
 use Rattle.field.specs.declared.Kind.{Kind}
 use Rattle.field.specs.declared.Kind.TheVariants.{Mark, Version, Count, Machine, Node, Edge, Start, Retiming}
-use Rattle.field.specs.declared.Cursor.{Cursor}
-use Rattle.field.specs.declared.Taken.{Taken}
+use Rattle.field.specs.Outcome.{Cursor, Taken}
 use Rattle.field.specs.Number.{number_at}
 use Rattle.field.specs.Taking.{wrong_at, onward, taken}
-use Rattle.reader.specs.declared.Reading.{Reading}
-use Rattle.reader.specs.declared.Prefix.{Prefix}
+use Rattle.reader.specs.Outcome.{Reading, Prefix}
 use Rattle.rows.specs.Rows.{class_at, node_at, edge_at, start_at}
 use Rattle.reader.specs.Tables.{header_of, table, class_step, node_step, edge_step, start_step}
 use Rattle.reader.specs.Reading.{classes_read, nodes_read, edges_read, starts_read, normalized, end_of, fronted, prefix_of, tail_of, answered, read_form}
@@ -83,7 +80,7 @@ module _ (s : List ℕ) where
   unfolding prefix_of fronted end_of
   prefix-early =
       let x : Reading = starts_read s in
-      let P : Refusal → Type 0 = λ r. number_of r ≤ 10 in
+      let P : Verdict → Type 0 = λ r. number_of r ≤ 10 in
       pick_ind P (fine x.next.refusal) _ _
       (λ f. pick_ind P (normalized x.form.header.length x.form.header.nodes x.form.retiming) _ _ (λ n. omega arith) (λ n. omega arith))
       (λ f. starts-early)
@@ -92,5 +89,5 @@ module _ (s : List ℕ) where
   unfolding read_form answered tail_of
   read-early =
       let p : Prefix = prefix_of s in
-      let P : Refusal → Type 0 = λ r. number_of r ≤ 10 in
+      let P : Verdict → Type 0 = λ r. number_of r ≤ 10 in
       pick_ind P (fine p.refusal) _ _ (λ f. pick_ind P (ltb p.size (length s)) _ _ (λ l. omega arith) (λ l. omega arith)) (λ f. prefix-early)

@@ -4,8 +4,7 @@ use Rattle.std.specs.Prelude.{◌≡◌, true, List, ◌∷◌, ℕ, suc, ◌+�
 use Rattle.std.proofs.Common.{ap, ◌∙◌, mul-zero, add-zero, arith, drop-cons}
 use Rattle.answer.specs.Refused.{fine}
 use Rattle.field.specs.declared.Kind.{Kind}
-use Rattle.field.specs.declared.Cursor.{Cursor}
-use Rattle.field.specs.declared.Taken.{Taken}
+use Rattle.field.specs.Outcome.{Cursor, Taken}
 use Rattle.field.specs.Number.{number_at}
 use Rattle.field.specs.Taking.{taken, onward}
 use Rattle.field.specs.Laws.{GoodField, good}

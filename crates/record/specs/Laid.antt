@@ -5,18 +5,17 @@ use Rattle.std.proofs.Math.Path.{refl}
 use Rattle.std.proofs.Common.{sym, ap, subst, ◌∙◌, arith}
 use Prim.Native.Nat.{ℕ, ◌+◌, ◌*◌, ◌<◌}
 use Rattle.lists.specs.Pick.{both_ways}
-use Rattle.answer.specs.Refused.{fine}
-use Rattle.answer.specs.declared.Refusal.{Refusal}
+use Rattle.answer.specs.Refused.{Verdict, fine}
 use Rattle.form.specs.declared.Form.{Form}
 use Rattle.form.specs.declared.Class.{Class}
 use Rattle.form.specs.declared.Node.{Node}
 use Rattle.form.specs.Places.{class_of, node_of, edge_of, latency_of}
 use Rattle.form.specs.Offsets.{classes_at}
 use Rattle.form.specs.Ranges.{GoodEdge, GoodStart, WellFormed}
-use Rattle.field.specs.declared.Cursor.{Cursor}
+use Rattle.field.specs.Outcome.{Cursor}
 use Rattle.field.specs.Number.{Bytes}
 use Rattle.field.specs.Taking.{onward}
-use Rattle.reader.specs.declared.Reading.{Reading}
+use Rattle.reader.specs.Outcome.{Reading}
 use Rattle.reader.specs.Tables.{class_step, node_step, edge_step, start_step}
 use Rattle.reader.specs.Reading.{starts_read}
 use Rattle.writer.specs.Layout.{layout}
@@ -32,7 +31,7 @@ use Rattle.record.specs.Walks.{Walks, class-walks, node-walks, edge-walks, start
 use Rattle.record.specs.LaidHeader.{Faulty, Counts, followed, counts, header-off}
 use Rattle.record.specs.Agree.{class-laid, node-laid, edge-laid, starts-same, start-laid, class-agrees, node-agrees}
 
-walks_at : (Q : Refusal → Type 0) (c : Cursor) (at : ℕ) → c ≡ onward at → Walks Q at c
+walks_at : (Q : Verdict → Type 0) (c : Cursor) (at : ℕ) → c ≡ onward at → Walks Q at c
 unfolding fine
 walks_at Q c at e = record { on = λ f. e; off = λ f. both_ways (ap (λ (k : Cursor). fine k.refusal) e) f }
 

@@ -6,8 +6,7 @@ use Rattle.std.proofs.Common.{◌∙◌, arith}
 use mathlib.Core.List.{List, ◌++◌}
 use Prim.Native.Nat.{ℕ, ◌≤◌}
 use Rattle.lists.specs.Pick.{both_ways}
-use Rattle.answer.specs.Refused.{number_of, fine}
-use Rattle.answer.specs.declared.Refusal.{Refusal}
+use Rattle.answer.specs.Refused.{Verdict, number_of, fine}
 use Rattle.form.specs.declared.Form.{Form}
 use Rattle.form.specs.Ranges.{WellFormed}
 use Rattle.field.specs.declared.Kind.TheVariants.{Mark, Version, Count}
@@ -24,7 +23,7 @@ use Rattle.record.specs.Sofar.{head_classes, head_nodes, head_edges, head_length
 use Rattle.record.specs.Walks.{Walks, slice-number, field-walks}
 
 -- a refusal of a field of the form, which is then not well-formed
-pub record Faulty (f : Form) (r : Refusal) : Type 0 where
+pub record Faulty (f : Form) (r : Verdict) : Type 0 where
   pub low : 4 ≤ number_of r
   pub high : number_of r ≤ 9
   pub never : WellFormed f → ⊥

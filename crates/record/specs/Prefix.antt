@@ -1,6 +1,6 @@
 -- The record at the front of any bytes: it is well-formed, its unused places are 0, and it is laid out as the bytes it was read from.
 -- Assumes nothing.
-use Rattle.std.specs.Prelude.{◌≡◌, true, List, ◌++◌, length, drop}
+use Rattle.std.specs.Prelude.{◌≡◌, true, List, ◌++◌, length, drop, None}
 use Rattle.std.proofs.Common.{sym, ap₂, subst, ◌∙◌, length-take, take-add, drop-drop}
 use Rattle.std.proofs.Math.Path.{ap}
 use Prim.Native.Nat.{ℕ, ◌+◌, ◌*◌, ◌≤◌, min}
@@ -8,14 +8,13 @@ use native.Mathlib.Omega.{arith}
 use Rattle.std.proofs.Math.ListN.{take}
 use Rattle.lists.specs.Pick.{pick}
 use Rattle.answer.specs.Refused.{fine}
-use Rattle.answer.specs.declared.Refusal.TheVariants.{None}
 use Rattle.form.specs.declared.Form.{Form}
 use Rattle.form.specs.declared.Edge.{Edge}
 use Rattle.form.specs.Places.{no_class, no_node, no_step, edge_of, scheduled_of, used}
 use Rattle.form.specs.Ranges.{GoodEdge, WellFormed}
 use Rattle.field.specs.Number.{Bytes}
-use Rattle.field.specs.declared.Cursor.{Cursor}
-use Rattle.reader.specs.declared.Reading.{Reading}
+use Rattle.field.specs.Outcome.{Cursor}
+use Rattle.reader.specs.Outcome.{Reading}
 use Rattle.reader.specs.Tables.{header_of}
 use Rattle.reader.specs.Reading.{starts_read, normalized, end_of, fronted, prefix_of}
 use Rattle.writer.specs.Layout.{count_bytes, header_bytes, class_rows, node_rows, edge_rows, start_rows, layout}

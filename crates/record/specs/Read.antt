@@ -3,13 +3,11 @@
 use Rattle.std.specs.Prelude.{◌≡◌, refl, true, List, ℕ, ◌≤◌, ltb, length}
 use Rattle.std.proofs.Common.{◌∙◌, ltb-false, take_all}
 use Rattle.lists.specs.Pick.{pick_ind, pick_true, both_ways}
-use Rattle.answer.specs.Refused.{fine}
-use Rattle.answer.specs.declared.Refusal.{Refusal}
+use Rattle.answer.specs.Refused.{Verdict, fine}
 use Rattle.form.specs.Places.{empty_form, used}
 use Rattle.form.specs.Ranges.{WellFormed}
 use Rattle.field.specs.Number.{Bytes}
-use Rattle.reader.specs.declared.Prefix.{Prefix}
-use Rattle.reader.specs.declared.Record.{Record}
+use Rattle.reader.specs.Outcome.{Prefix, Record}
 use Rattle.reader.specs.Reading.{prefix_of, tail_of, answered, read_form}
 use Rattle.writer.specs.Layout.{layout}
 use Rattle.record.specs.Prefix.{prefix-well-formed, prefix-used, prefix-layout}
@@ -22,7 +20,7 @@ pub record Alone (s : List ℕ) (p : Prefix) : Type 0 where
 alone : (s : List ℕ) (p : Prefix) → fine (tail_of s p) ≡ true → Alone s p
 unfolding tail_of fine
 alone s p =
-    let P : Refusal → Type 0 = λ r. fine r ≡ true → Alone s p in
+    let P : Verdict → Type 0 = λ r. fine r ≡ true → Alone s p in
     pick_ind P (fine p.refusal) _ _
     (λ f. pick_ind P (ltb p.size (length s)) _ _ (λ l e. both_ways e refl) (λ l e. record { begun = f; all = ltb-false p.size (length s) l }))
     (λ f e. both_ways e f)

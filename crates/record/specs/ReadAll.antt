@@ -1,16 +1,14 @@
 -- The record at the front, table after table: everything read so far, or the refusal of the field that stopped it.
 -- Assumes nothing.
-use Rattle.std.specs.Prelude.{◌≡◌, refl, true, false, List, ℕ, ◌+◌, ◌*◌, ◌<◌}
+use Rattle.std.specs.Prelude.{◌≡◌, refl, true, false, List, ℕ, ◌+◌, ◌*◌, ◌<◌, None}
 use Rattle.std.proofs.Math.Path.{ap₂}
 use Rattle.std.proofs.Common.{arith}
 use Rattle.lists.specs.Pick.{pick_ind, both_ways}
-use Rattle.answer.specs.Refused.{fine}
-use Rattle.answer.specs.declared.Refusal.{Refusal}
-use Rattle.answer.specs.declared.Refusal.TheVariants.{None}
+use Rattle.answer.specs.Refused.{Verdict, fine}
 use Rattle.form.specs.Places.{scheduled_of}
 use Rattle.form.specs.Offsets.{classes_at}
 use Rattle.field.specs.Number.{Bytes}
-use Rattle.reader.specs.declared.Reading.{Reading}
+use Rattle.reader.specs.Outcome.{Reading}
 use Rattle.reader.specs.Tables.{header_of, class_step, node_step, edge_step, start_step}
 use Rattle.reader.specs.Reading.{classes_read, nodes_read, edges_read, starts_read, normalized, end_of}
 use Rattle.record.specs.LayoutSize.{scheduled-le}
@@ -35,10 +33,10 @@ abbrev pub StartsSofar : List ℕ → ℕ → Reading → Type 0
 StartsSofar s v = ReadSofar s (head_classes s) (head_nodes s) (head_edges s) v (starts_after s + 3 * v)
 
 -- a table's row that is refused after all before it were read
-abbrev pub Refuses : (ℕ → Reading → Reading) → (ℕ → Reading → Type 0) → ℕ → (Refusal → Type 0) → Type 0
+abbrev pub Refuses : (ℕ → Reading → Reading) → (ℕ → Reading → Type 0) → ℕ → (Verdict → Type 0) → Type 0
 Refuses step P n Q = (i : ℕ) (x : Reading) → i < n → P i x → fine (step i x).next.refusal ≡ false → Q (step i x).next.refusal
 
-module _ (s : List ℕ) (b : Bytes s) (Q : Refusal → Type 0)
+module _ (s : List ℕ) (b : Bytes s) (Q : Verdict → Type 0)
     (header-off : fine (header_of s).next.refusal ≡ false → Q (header_of s).next.refusal)
     (class-off : Refuses (class_step s) (ClassesSofar s) (head_classes s) Q)
     (node-off : Refuses (node_step s) (NodesSofar s) (head_nodes s) Q)
@@ -78,7 +76,7 @@ module _ (s : List ℕ) (b : Bytes s) (Q : Refusal → Type 0)
       (moved s (head_classes s) (head_nodes s) (head_edges s) 0 _ (starts_after s + 3 * 0) (edges_read s) (omega arith) p))
 
 -- what a fine end tells
-pub record Ended (x : Reading) (r : Refusal) : Type 0 where
+pub record Ended (x : Reading) (r : Verdict) : Type 0 where
   pub begun : fine x.next.refusal ≡ true
   pub normal : normalized x.form.header.length x.form.header.nodes x.form.retiming ≡ true
   pub none : r ≡ None
@@ -87,7 +85,7 @@ pub record Ended (x : Reading) (r : Refusal) : Type 0 where
 pub ended : (x : Reading) → fine (end_of x) ≡ true → Ended x (end_of x)
 unfolding end_of fine
 ended x =
-    let P : Refusal → Type 0 = λ r. fine r ≡ true → Ended x r in
+    let P : Verdict → Type 0 = λ r. fine r ≡ true → Ended x r in
     pick_ind P (fine x.next.refusal) _ _
     (λ f. pick_ind P (normalized x.form.header.length x.form.header.nodes x.form.retiming) _ _ (λ n e. record { begun = f; normal = n; none = refl }) (λ n e. both_ways e refl))
     (λ f e. both_ways e f)

@@ -3,34 +3,33 @@
 use Rattle.std.specs.Prelude.{◌≡◌, true, false, List, ℕ}
 use Rattle.std.proofs.Common.{subst}
 use Rattle.lists.specs.Pick.{pick, pick_ind, pick_true, pick-false, both_ways}
-use Rattle.answer.specs.Refused.{fine}
-use Rattle.answer.specs.declared.Refusal.{Refusal}
+use Rattle.answer.specs.Refused.{Verdict, fine}
 use Rattle.form.specs.declared.Form.{Form}
 use Rattle.form.specs.Ranges.{WellFormed}
 use Rattle.field.specs.Number.{Bytes}
-use Rattle.reader.specs.declared.Record.{Record}
+use Rattle.reader.specs.Outcome.{Record}
 use Rattle.reader.specs.Reading.{read_form}
 use Rattle.record.specs.Held.{Held}
 use Rattle.record.specs.Read.{read-well-formed}
 use Rattle.record.specs.ReadHeld.{read_held}
 
-unfoldable pub read_first : List ℕ → (Form → Refusal) → Refusal
+unfoldable pub read_first : List ℕ → (Form → Verdict) → Verdict
 read_first s ask = pick (fine (read_form s).refusal) (ask (read_form s).form) (read_form s).refusal
 
 -- what an entry point has of a record that was read: a form in its ranges, which alone is asked
 pub record WellRead (s : List ℕ) (r : Record) : Type 0 where
   pub good : WellFormed r.form
   pub held : Held r.form
-  pub asks : (ask : Form → Refusal) → read_first s ask ≡ ask r.form
+  pub asks : (ask : Form → Verdict) → read_first s ask ≡ ask r.form
 
 module _ (s : List ℕ) (r : Record) (back : r ≡ read_form s) where
   -- refused by the reader
-  pub first-refused : (ask : Form → Refusal) → fine r.refusal ≡ false → read_first s ask ≡ r.refusal
+  pub first-refused : (ask : Form → Verdict) → fine r.refusal ≡ false → read_first s ask ≡ r.refusal
   unfolding read_first
   first-refused ask f = rw (← back) (pick-false (fine r.refusal) (ask r.form) r.refusal f)
 
   -- asked of the form
-  pub first-asked : (ask : Form → Refusal) → fine r.refusal ≡ true → read_first s ask ≡ ask r.form
+  pub first-asked : (ask : Form → Verdict) → fine r.refusal ≡ true → read_first s ask ≡ ask r.form
   unfolding read_first
   first-asked ask f = rw (← back) (pick_true (fine r.refusal) (ask r.form) r.refusal f)
 
@@ -44,9 +43,9 @@ module _ (s : List ℕ) (r : Record) (back : r ≡ read_form s) where
       }
 
 -- where nothing is refused, neither the reader nor what is asked refuses
-pub neither-refused : (s : List ℕ) (ask : Form → Refusal) → fine (read_first s ask) ≡ true
+pub neither-refused : (s : List ℕ) (ask : Form → Verdict) → fine (read_first s ask) ≡ true
     → (fine (read_form s).refusal ≡ true) × (fine (ask (read_form s).form) ≡ true)
 unfolding read_first
 neither-refused s ask =
-    pick_ind (λ (r : Refusal). fine r ≡ true → (fine (read_form s).refusal ≡ true) × (fine (ask (read_form s).form) ≡ true))
+    pick_ind (λ (r : Verdict). fine r ≡ true → (fine (read_form s).refusal ≡ true) × (fine (ask (read_form s).form) ≡ true))
     (fine (read_form s).refusal) _ _ (λ e f. (e, f)) (λ e f. both_ways f e)

@@ -6,7 +6,7 @@ use Rattle.std.proofs.Math.Decide.{dec_lt}
 use Rattle.answer.specs.Refused.{fine}
 use Rattle.form.specs.Places.{no_class, no_node, class_of, node_of, edge_of}
 use Rattle.field.specs.Number.{Bytes}
-use Rattle.reader.specs.declared.Reading.{Reading}
+use Rattle.reader.specs.Outcome.{Reading}
 use Rattle.reader.specs.Reading.{starts_read, prefix_of, read_form}
 use Rattle.record.specs.Held.{HeldClass, HeldNode, HeldEdge, Held}
 use Rattle.record.specs.Sofar.{head_classes, head_nodes, head_edges, no_edge, no_slot, slot_of}

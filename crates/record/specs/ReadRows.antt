@@ -13,7 +13,7 @@ use Rattle.form.specs.declared.Node.{Node}
 use Rattle.form.specs.declared.BodyStep.{BodyStep}
 use Rattle.form.specs.Ranges.{GoodClass, GoodEdge}
 use Rattle.field.specs.declared.Kind.TheVariants.{Machine, Node as node, Edge as edge, Start, Retiming}
-use Rattle.field.specs.declared.Cursor.{Cursor}
+use Rattle.field.specs.Outcome.{Cursor}
 use Rattle.field.specs.Number.{Bytes, number_at, bytes-number}
 use Rattle.field.specs.Taking.{onward}
 use Rattle.rows.specs.Rows.{latency_in, units_in, pipelined_in, class_at, operation_of, class_in, code_in, constant_in, node_at, from_in, to_in, delays_in, edge_at, start_in, retiming_in, start_at}

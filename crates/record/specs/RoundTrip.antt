@@ -1,15 +1,13 @@
 -- The two round trips: what was written is read back, and what was read is written back.
 -- Assumes nothing.
-use Rattle.std.specs.Prelude.{◌≡◌, refl, List, ℕ, ◌+◌, ◌≤◌, ltb, length, take, drop}
+use Rattle.std.specs.Prelude.{◌≡◌, refl, List, ℕ, ◌+◌, ◌≤◌, ltb, length, take, drop, None}
 use Rattle.std.proofs.Common.{ap, subst, ◌∙◌, arith}
 use Rattle.std.proofs.Math.Bool.{true}
 use borrow.Author.Tests.{ltb-false, le-ltb}
 use Rattle.std.proofs.lemmas.List.Edits.{sets, sets-eq}
 use Rattle.std.proofs.Math.Seq.{take-append_seam}
 use Rattle.lists.specs.Pick.{pick, pick_ind, pick_true, pick-false, both_ways}
-use Rattle.answer.specs.Refused.{fine}
-use Rattle.answer.specs.declared.Refusal.{Refusal}
-use Rattle.answer.specs.declared.Refusal.TheVariants.{None}
+use Rattle.answer.specs.Refused.{Verdict, fine}
 use Rattle.form.specs.declared.Form.{Form}
 use Rattle.form.specs.Places.{used}
 use Rattle.field.specs.Number.{Bytes}
@@ -30,7 +28,7 @@ module _ (f : Form) (room : ℕ) where
   pub wrote : fine (refusal_of f room) ≡ true → ReadsBack f room
   unfolding refusal_of fine
   wrote =
-      let P : Refusal → Type 0 = λ r. fine r ≡ true → ReadsBack f room in
+      let P : Verdict → Type 0 = λ r. fine r ≡ true → ReadsBack f room in
       pick_ind P (fine (read_form (layout f)).refusal) _ _
       (λ r. pick_ind P (ltb room (length (layout f))) _ _ (λ l e. both_ways e refl) (λ l e. record { reads = r; fits = ltb-false room (length (layout f)) l }))
       (λ r e. both_ways e r)

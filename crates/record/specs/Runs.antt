@@ -3,13 +3,12 @@
 use Rattle.std.specs.Prelude.{◌≡◌, refl, Bool, true, false, ℕ, zero, suc, ◌+◌, ◌<◌}
 use Rattle.std.proofs.Common.{subst, arith}
 use Rattle.lists.specs.Pick.{pick, both_ways}
-use Rattle.answer.specs.Refused.{fine}
-use Rattle.answer.specs.declared.Refusal.{Refusal}
-use Rattle.reader.specs.declared.Reading.{Reading}
+use Rattle.answer.specs.Refused.{Verdict, fine}
+use Rattle.reader.specs.Outcome.{Reading}
 use Rattle.reader.specs.Tables.{table}
 
 -- P holds where nothing is refused, else Q of the refusal
-pub record Runs (P : Reading → Type 0) (Q : Refusal → Type 0) (x : Reading) : Type 0 where
+pub record Runs (P : Reading → Type 0) (Q : Verdict → Type 0) (x : Reading) : Type 0 where
   pub on : fine x.next.refusal ≡ true → P x
   pub off : fine x.next.refusal ≡ false → Q x.next.refusal
 
@@ -20,7 +19,7 @@ table-refused step zero i x e = refl
 table-refused step (suc n) i x e = rw e
 
 -- a table after what went before it
-pub runs_on : {P R : Reading → Type 0} {Q : Refusal → Type 0} (step : ℕ → Reading → Reading) (n i : ℕ) (x : Reading) → Runs P Q x
+pub runs_on : {P R : Reading → Type 0} {Q : Verdict → Type 0} (step : ℕ → Reading → Reading) (n i : ℕ) (x : Reading) → Runs P Q x
     → (fine x.next.refusal ≡ true → P x → Runs R Q (table step n i x)) → Runs R Q (table step n i x)
 runs_on {P} {R} {Q} step n i x r k = go (fine x.next.refusal) refl
   where
@@ -29,7 +28,7 @@ runs_on {P} {R} {Q} step n i x r k = go (fine x.next.refusal) refl
     go false e = rw (table-refused step n i x e) (record { on = λ t. both_ways t e; off = r.off })
 
 -- what holds before a table's rows and is kept by each row that is not refused holds after them, and a refused row is the table's refusal
-pub table_runs : (step : ℕ → Reading → Reading) (P : ℕ → Reading → Type 0) (Q : Refusal → Type 0) (top : ℕ)
+pub table_runs : (step : ℕ → Reading → Reading) (P : ℕ → Reading → Type 0) (Q : Verdict → Type 0) (top : ℕ)
     → ((i : ℕ) (x : Reading) → i < top → P i x → Runs (P (suc i)) Q (step i x))
     → (left i : ℕ) (x : Reading) → i + left ≡ top → fine x.next.refusal ≡ true → P i x → Runs (P top) Q (table step left i x)
 unfolding table pick

@@ -18,7 +18,7 @@ use Rattle.form.specs.Offsets.{classes_at, nodes_at, edges_at, starts_at}
 use Rattle.form.specs.Ranges.{GoodClass, GoodEdge}
 use Rattle.field.specs.Number.{Bytes}
 use Rattle.field.specs.Taking.{onward}
-use Rattle.reader.specs.declared.Reading.{Reading}
+use Rattle.reader.specs.Outcome.{Reading}
 use Rattle.rows.specs.Rows.{class_at, node_at, edge_at, start_at}
 use Rattle.reader.specs.Tables.{header_of, class_step, node_step, edge_step, start_step}
 use Rattle.writer.specs.Layout.{class_bytes, node_bytes, edge_bytes}

@@ -3,8 +3,7 @@
 use Rattle.std.specs.Prelude.{◌≡◌, true, false, List, [], ◌∷◌, ℕ, ◌+◌, ◌-◌, ◌≤◌, ◌<◌, length, take, drop}
 use Rattle.std.proofs.Math.Path.{refl}
 use Rattle.std.proofs.Common.{sym, ap, ◌∙◌, ⊎_elim, add-zero, arith}
-use Rattle.answer.specs.Refused.{fine}
-use Rattle.answer.specs.declared.Refusal.{Refusal}
+use Rattle.answer.specs.Refused.{Verdict, fine}
 use Rattle.form.specs.declared.Class.{Class}
 use Rattle.form.specs.declared.Node.{Node}
 use Rattle.form.specs.declared.Edge.{Edge}
@@ -13,7 +12,7 @@ use Rattle.form.specs.declared.Operation.TheVariants.{Add, Sub, Mul}
 use Rattle.form.specs.Ranges.{Within, GoodClass, GoodEdge}
 use Rattle.field.specs.declared.Kind.{Kind}
 use Rattle.field.specs.declared.Kind.TheVariants.{Machine, Node as node, Edge as edge, Start, Retiming}
-use Rattle.field.specs.declared.Cursor.{Cursor}
+use Rattle.field.specs.Outcome.{Cursor}
 use Rattle.field.specs.Number.{Bytes, number_at, bytes_of, number_lt, number-take, number-drop}
 use Rattle.field.specs.Taking.{taken, onward, wrong_at}
 use Rattle.field.specs.Laws.{Outside, bad}
@@ -25,7 +24,7 @@ use Rattle.record.specs.ReadRows.{Slot, slot_bytes, GoodSlot}
 use Rattle.record.specs.Fields.{begun, got}
 
 -- the cursor is fine and at the offset, or Q of its refusal
-pub record Walks (Q : Refusal → Type 0) (at : ℕ) (c : Cursor) : Type 0 where
+pub record Walks (Q : Verdict → Type 0) (at : ℕ) (c : Cursor) : Type 0 where
   pub on : fine c.refusal ≡ true → c ≡ onward at
   pub off : fine c.refusal ≡ false → Q c.refusal
 
@@ -33,7 +32,7 @@ pub record Walks (Q : Refusal → Type 0) (at : ℕ) (c : Cursor) : Type 0 where
 pub slice-number : (s part : List ℕ) (at size width k : ℕ) → take size (drop at s) ≡ part → k + width ≤ size → number_at width s (at + k) ≡ number_at width part k
 slice-number s part at size width k e h = sym (number-drop width s at k) ∙ sym (number-take width size (drop at s) k h) ∙ rw e
 
-module _ (Q : Refusal → Type 0) (s : List ℕ) where
+module _ (Q : Verdict → Type 0) (s : List ℕ) where
   -- a complete field goes on where its number is in range
   pub field-walks : (c : Cursor) (at to width low high : ℕ) (kind : Kind) → Walks Q at c → at + width ≤ length s → at + width ≡ to
       → ((Within low high (number_at width s at) → ⊥) → Q (wrong_at kind at)) → Walks Q to (taken s c width low high kind).next
@@ -107,7 +106,7 @@ slot-numbers s at k l e =
     }
 
 -- the rows of each table
-module _ (Q : Refusal → Type 0) (s : List ℕ) (c : Cursor) (at to : ℕ) (w : Walks Q at c) where
+module _ (Q : Verdict → Type 0) (s : List ℕ) (c : Cursor) (at to : ℕ) (w : Walks Q at c) where
   -- a class stops only where it is out of range
   pub class-walks : (k : Class) → take 3 (drop at s) ≡ class_bytes k → at + 3 ≡ to → ((GoodClass k → ⊥) → (a : ℕ) → Q (wrong_at Machine a))
       → Walks Q to (class_at s c).next

@@ -1,6 +1,6 @@
 -- Reading what a held form is laid out as: the form's used places if it is well-formed, else the refusal of a field of it.
 -- Assumes nothing.
-use Rattle.std.specs.Prelude.{◌≡◌, Bool, ◌⊎◌, ℕ, ◌+◌, ◌*◌, ◌<◌, ltb}
+use Rattle.std.specs.Prelude.{◌≡◌, Bool, ◌⊎◌, ℕ, ◌+◌, ◌*◌, ◌<◌, ltb, None}
 use Rattle.std.proofs.Math.Path.{refl, ap}
 use Rattle.std.proofs.Common.{subst, ◌∙◌, arith, le-ltb}
 use Rattle.std.proofs.Math.Bool.{true, false}
@@ -9,16 +9,13 @@ use Rattle.std.proofs.Math.Logic.{inl, inr}
 use Rattle.std.proofs.Math.Decide.{ℕ_discrete}
 use Rattle.std.proofs.Math.ListN.{length}
 use Rattle.lists.specs.Pick.{pick, pick_ind, both_ways}
-use Rattle.answer.specs.Refused.{number_of, fine}
-use Rattle.answer.specs.declared.Refusal.{Refusal}
-use Rattle.answer.specs.declared.Refusal.TheVariants.{None}
+use Rattle.answer.specs.Refused.{Verdict, number_of, fine}
 use Rattle.form.specs.declared.Form.{Form}
 use Rattle.form.specs.Places.{used}
 use Rattle.form.specs.Ranges.{Within, GoodSchedule, WellFormed}
 use Rattle.field.specs.Number.{Bytes}
-use Rattle.field.specs.declared.Cursor.{Cursor}
-use Rattle.reader.specs.declared.Reading.{Reading}
-use Rattle.reader.specs.declared.Prefix.{Prefix}
+use Rattle.field.specs.Outcome.{Cursor}
+use Rattle.reader.specs.Outcome.{Reading, Prefix}
 use Rattle.reader.specs.Reading.{starts_read, normalized, end_of, fronted, prefix_of, tail_of, answered, read_form}
 use Rattle.writer.specs.Layout.{layout}
 use Rattle.record.specs.Held.{Held}
@@ -86,7 +83,7 @@ module _ (f : Form) (h : Held f) (rest : List ℕ) (tail : Bytes rest) where
   unfolding prefix_of fronted end_of
   front-refusals =
       let x : Reading = starts_read (followed f rest) in
-      let P : Refusal → Type 0 = λ r. (number_of r ≡ 0) ⊎ Within 4 9 (number_of r) in
+      let P : Verdict → Type 0 = λ r. (number_of r ≡ 0) ⊎ Within 4 9 (number_of r) in
       pick_ind P (fine x.next.refusal) _ _
       (λ e. pick_ind P (normalized x.form.header.length x.form.header.nodes x.form.retiming) _ _ (λ n. inl refl) (λ n. inr (omega arith)))
       (λ e. inr (((laid-run f h rest tail).off e).low, ((laid-run f h rest tail).off e).high))
@@ -115,7 +112,7 @@ module _ (f : Form) (h : Held f) where
       let p : Prefix = prefix_of (layout f) in
       let size : fine p.refusal ≡ true → p.size ≡ length (layout f) =
       λ e. ap (λ (q : Prefix). q.size) (rw none_left at (well-formed-front f h [] bytes-nil (front-well-formed f h [] bytes-nil (rw none_left e)))) in
-      let P : Refusal → Type 0 = λ r. (number_of r ≡ 0) ⊎ Within 4 9 (number_of r) in
+      let P : Verdict → Type 0 = λ r. (number_of r ≡ 0) ⊎ Within 4 9 (number_of r) in
       pick_ind P (fine p.refusal) _ _
       (λ e. pick_ind P (ltb p.size (length (layout f))) _ _ (λ l. both_ways l (le-ltb p.size (length (layout f)) (omega (arith, size e)))) (λ l. inl refl))
       (λ e. rw none_left at (front-refusals f h [] bytes-nil))

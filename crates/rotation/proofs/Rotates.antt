@@ -1,5 +1,6 @@
 -- The ways that a rotation goes: what the judge refuses, Size, Long, and the form rotated.
 -- Assumes nothing.
+use Rattle.std.specs.Prelude.{Result, Ok, Err, None, Some}
 use mathlib.Core.Path.{◌≡◌, refl, sym, ap, ◌∙◌}
 use mathlib.Core.Bool.{Bool, true, false, ◌&&◌}
 use mathlib.Core.Logic.{◌⊎◌, ◌≢◌}
@@ -10,10 +11,11 @@ use lib.Dec.{ltb}
 use borrow.Author.Tests.{ltb-true, lt-ltb, le-ltb}
 use Rattle.lists.specs.Pick.{pick_true, pick-false, pick_ind, both_ways}
 use Rattle.lists.specs.Both.{and_both}
-use Rattle.answer.specs.Refused.{fine}
+use Rattle.answer.specs.Refused.{fine, refused_fine}
 use Rattle.answer.specs.Outcome.{no_cycle}
 use Rattle.answer.specs.declared.Cycle.{Cycle}
-use Rattle.answer.specs.declared.Refusal.TheVariants.{None, Size, Long, Room}
+use Rattle.answer.specs.declared.Refusal.TheVariants.{Size, Long, Room}
+use Rattle.answer.specs.declared.Refused.{Refused}
 use Rattle.form.specs.declared.Form.{Form}
 use Rattle.form.specs.Ranges.{WellFormed}
 use Rattle.writer.specs.Writing.{refusal_of}
@@ -26,7 +28,8 @@ use Rattle.legal.specs.Handed.{handed-none}
 use Rattle.tables.specs.declared.Timetable.{Timetable}
 use Rattle.tables.specs.Times.{times_of}
 use Rattle.judge.specs.Judgement.{Judgement}
-use Rattle.judge.specs.declared.Judged as verdict
+use Rattle.judge.specs.Outcome.{judged_in}
+use Rattle.plans.specs.Outcome.{plan_in}
 use Rattle.plans.specs.Pairs.{with_pair, with_times}
 use Rattle.plans.specs.Tabled.{Tabled}
 use Rattle.plans.specs.Scheduling.{Planned, unturned}
@@ -59,23 +62,17 @@ unfolding times_of
 turns-here f edges from to delays t k z b is = ap (λ (u : Timetable). turns z u.length) (sym k.is) ∙ sym is
 
 -- what the judge accepts, and what it refuses
-module _ (f : Form) (j : verdict.Judged) (q : Judgement f j) where
-  pub judge-accepted : WellFormed f → fine j.refusal ≡ true → judge_of f ≡ None
-  judge-accepted w t = judged-none (loop_of f) (pair_of f) (judge_of f) (judged f w) (sym (ap fine q.refusal) ∙ t)
+pub judge-accepted : (f : Form) (done : Unit) → Judgement f (judged_in (Ok done)) → judge_of f ≡ None
+judge-accepted f done q = sym q.refusal
 
-  pub accepted-alone : fine j.refusal ≡ true → j.cycle ≡ no_cycle
-  unfolding fine
-  accepted-alone t = q.handed.none (λ e. both_ways t (ap fine e)) (λ e. both_ways t (ap fine e))
-
-  pub rotate-unjudged : (z : ℕ) → fine j.refusal ≡ false
-      → (t : Timetable) → Planned (rotate_asked z) (rotated_by z) unturned f (record { refusal = j.refusal; rotations = 0; cycle = j.cycle; times = t })
-  unfolding rotate_asked
-  rotate-unjudged z b _ = record {
-    refusal = q.refusal ∙ sym (pick-false (fine (judge_of f)) _ _ (sym (ap fine q.refusal) ∙ b));
-    form = λ t. both_ways t b;
-    rotations = λ t. refl;
-    handed = q.handed;
-  }
+pub rotate-unjudged : (f : Form) (e : Refused) → Judgement f (judged_in (Err e)) → (z : ℕ) (t : Timetable) → Planned (rotate_asked z) (rotated_by z) unturned f (plan_in t (Err e))
+unfolding rotate_asked
+rotate-unjudged f e q z t = record {
+  refusal = q.refusal ∙ sym (pick-false (fine (judge_of f)) _ _ (sym (ap fine q.refusal) ∙ refused_fine e.refusal));
+  form = λ b. both_ways b (refused_fine e.refusal);
+  rotations = λ b. refl;
+  handed = q.handed;
+}
 
 module _ (f : Form) (w : WellFormed f) (z : ℕ) (accepted : judge_of f ≡ None) where
   judge-fine : fine (judge_of f) ≡ true
@@ -90,13 +87,13 @@ module _ (f : Form) (w : WellFormed f) (z : ℕ) (accepted : judge_of f ≡ None
   rotate-turnable b edges from to delays t k = let l = rotate-legal b in record { tabled = k; legal = l.0; some = l.1; below = l.2 }
 
   pub rotate-size : turns z f.header.length ≡ false → (n : ℕ) → n ≡ z → (c : Cycle) → c ≡ no_cycle
-      → (u : Timetable) → Planned (rotate_asked z) (rotated_by z) unturned f (record { refusal = Size n; rotations = 0; cycle = c; times = u })
+      → (u : Timetable) → Planned (rotate_asked z) (rotated_by z) unturned f (record { refusal = Some (Size n); rotations = 0; cycle = c; times = u })
   unfolding rotate_asked fine
   rotate-size b n is c none _ = record {
-    refusal = ap (λ (k : ℕ). Size k) is ∙ sym (pick_true (fine (judge_of f)) _ _ judge-fine ∙ pick-false (turns z f.header.length) _ _ b);
+    refusal = ap (λ (k : ℕ). (Some (Size k))) is ∙ sym (pick_true (fine (judge_of f)) _ _ judge-fine ∙ pick-false (turns z f.header.length) _ _ b);
     form = λ t. both_ways t refl;
     rotations = λ t. refl;
-    handed = handed-none _ _ (Size n) c (omega arith) (omega arith) none;
+    handed = handed-none _ _ (Some (Size n)) c (omega arith) (omega arith) none;
   }
 
   module _ (t : turns z f.header.length ≡ true) (x : Timetable) (is : x ≡ times_of (rotated_or f z)) (c : Cycle) (none : c ≡ no_cycle) where
@@ -104,7 +101,7 @@ module _ (f : Form) (w : WellFormed f) (z : ℕ) (accepted : judge_of f ≡ None
     unfolding times_of
     long-is = ap (λ (y : Timetable). y.length) is ∙ or-length f z
 
-    pub rotate-too-long : 512 < x.length → (u : Timetable) → Planned (rotate_asked z) (rotated_by z) unturned f (record { refusal = Long; rotations = 0; cycle = c; times = u })
+    pub rotate-too-long : 512 < x.length → (u : Timetable) → Planned (rotate_asked z) (rotated_by z) unturned f (record { refusal = Some Long; rotations = 0; cycle = c; times = u })
     unfolding rotate_asked too_long fine
     rotate-too-long l _ = record {
       refusal =
@@ -113,7 +110,7 @@ module _ (f : Form) (w : WellFormed f) (z : ℕ) (accepted : judge_of f ≡ None
           ∙ pick_true (too_long f z) _ _ (lt-ltb 512 (rotated_length f z) (omega (arith, long-is))));
       form = λ q. both_ways q refl;
       rotations = λ q. refl;
-      handed = handed-none _ _ Long c (omega arith) (omega arith) none;
+      handed = handed-none _ _ (Some Long) c (omega arith) (omega arith) none;
     }
 
     pub rotate-planned : x.length ≤ 512 → Planned (rotate_asked z) (rotated_by z) unturned f (record { refusal = None; rotations = 0; cycle = c; times = x })
@@ -142,7 +139,7 @@ asked-told z f e = go (fine (judge_of f)) (turns z f.header.length) (too_long f 
     go true true true p q r = both_ways e (ap fine (pick_true (fine (judge_of f)) _ _ p ∙ pick_true (turns z f.header.length) _ _ q ∙ pick_true (too_long f z) _ _ r))
     go true true false p q r = (p, q, r)
 
-pub rotate-writes : (z : ℕ) (f : Form) → WellFormed f → Held f → fine (rotate_asked z f) ≡ true → (room : ℕ) → (refusal_of (rotated_by z f) room ≡ None) ⊎ (refusal_of (rotated_by z f) room ≡ Room 0)
+pub rotate-writes : (z : ℕ) (f : Form) → WellFormed f → Held f → fine (rotate_asked z f) ≡ true → (room : ℕ) → (refusal_of (rotated_by z f) room ≡ None) ⊎ (refusal_of (rotated_by z f) room ≡ Some (Room 0))
 rotate-writes z f w h e room =
     let a = asked-told z f e in
     let l = rotate-legal f w z (judged-none (loop_of f) (pair_of f) (judge_of f) (judged f w) a.0) a.1 in

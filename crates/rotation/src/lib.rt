@@ -3,58 +3,33 @@
 
 ghost use Rattle.std.specs.Prelude.{◌≡◌};
 ghost use Rattle.form.specs.declared.Form.{Form};
-ghost use Rattle.plans.specs.Tabled.{Tabled};
+ghost use Rattle.plans.specs.Outcome.{plan_in, scheduled_in};
+ghost use Rattle.plans.specs.Tabled.{TabledBy};
 ghost use Rattle.plans.specs.Scheduling.{unturned, Planned, RecordScheduled};
 ghost use Rattle.turning.specs.Rotation.{first_form};
 ghost use Rattle.rotation.specs.Rotating.{first_asked, turns, rotate_asked, rotated_by};
 
-use answer::{Cycle, Refusal};
-use plans::{Plan, Scheduled};
+use answer::{Refusal, Refused};
+use form::Edges;
+use plans::{Rewritten, Turned};
 use tables::Timetable;
 
 // Knot, else the timetable of the form's first schedule.
-fn first_plan<'a>(
-    edges: u16,
-    from: &'a [u8; 256],
-    to: &'a [u8; 256],
-    delays: &'a [u8; 256],
-    times: Timetable,
-) -> Plan
-    requires { (f : Form) × Tabled f edges from.now to.now delays.now times }
-    ensures { (f : Form) → Tabled f edges from.now to.now delays.now times → Planned first_asked first_form unturned f result }
+fn first_plan(edges: Edges, times: Timetable) -> Result<Turned, Refused>
+    requires { (f : Form) × TabledBy f edges times }
+    ensures { (f : Form) → TabledBy f edges.entry times → Planned first_asked first_form unturned f (plan_in times result) }
 {
-    let knot = knots::knot_of(times.nodes, edges, from, to, delays);
-    let knotted = 0 < knot.count;
-    if knotted {
-        return plans::uncounted(Refusal::Knot, knot, times);
-    }
-    let first = turning::first_times(edges, from, to, delays, times);
-    plans::uncounted(Refusal::None, knot, first)
+    knots::unknotted(times.nodes, edges)?;
+    Ok(plans::uncounted(turning::first_times(edges, times)))
 }
 
 // The record with its first schedule, into `out`; a refusal leaves `out` as it was.
-pub fn first(record: &[u8], out: &mut [u8]) -> Scheduled
-    ensures { RecordScheduled first_asked first_form unturned «record».now out.old out.new result }
+pub fn first(record: &[u8], out: &mut [u8]) -> Result<Rewritten, Refused>
+    ensures { RecordScheduled first_asked first_form unturned «record».now out.old out.new (scheduled_in result) }
 {
-    let read = reader::read(record);
-    let unread = read.refusal;
-    if !unread.is_fine() {
-        return Scheduled {
-            refusal: unread,
-            size: 0,
-            rotations: 0,
-            cycle: Cycle::none(),
-        };
-    }
-    let times = tables::times_of(read.form);
-    let plan = first_plan(
-        read.form.header.edges,
-        &read.form.from,
-        &read.form.to,
-        &read.form.delays,
-        times,
-    );
-    plans::write_plan(read.form, plan, out)
+    let form = reader::read(record)?;
+    let plan = first_plan(form.edges(), tables::times_of(form))?;
+    plans::write_plan(form, plan, out)
 }
 
 // Whether a body of this length can be rotated by so many steps.
@@ -68,55 +43,26 @@ fn turns_by(steps: u16, length: u16) -> bool
 }
 
 // What the judge refuses, then Size, then Long, else the timetable of the form rotated.
-fn rotate_plan<'a>(
-    edges: u16,
-    from: &'a [u8; 256],
-    to: &'a [u8; 256],
-    delays: &'a [u8; 256],
-    times: Timetable,
-    steps: u16,
-) -> Plan
-    requires { (f : Form) × Tabled f edges from.now to.now delays.now times }
-    ensures { (f : Form) → Tabled f edges from.now to.now delays.now times → Planned (rotate_asked steps) (rotated_by steps) unturned f result }
+fn rotate_plan(edges: Edges, times: Timetable, steps: u16) -> Result<Turned, Refused>
+    requires { (f : Form) × TabledBy f edges times }
+    ensures { (f : Form) → TabledBy f edges.entry times → Planned (rotate_asked steps) (rotated_by steps) unturned f (plan_in times result) }
 {
-    let judged = judge::judge_tables(edges, from, to, delays, times);
-    let unjudged = judged.refusal;
-    let cycle = judged.cycle;
-    if !unjudged.is_fine() {
-        return plans::uncounted(unjudged, cycle, times);
-    }
+    judge::judge_tables(edges, times)?;
     if !turns_by(steps, times.length) {
-        return plans::uncounted(Refusal::Size(steps as u32), cycle, times);
+        return Err(Refusal::Size(steps as u32).into());
     }
-    let turned = turning::rotate_times(edges, from, to, delays, times, steps);
+    let turned = turning::rotate_times(edges, times, steps);
     if 512 < turned.length {
-        return plans::uncounted(Refusal::Long, cycle, times);
+        return Err(Refusal::Long.into());
     }
-    plans::uncounted(Refusal::None, cycle, turned)
+    Ok(plans::uncounted(turned))
 }
 
 // The record rotated by so many steps, into `out`; a refusal leaves `out` as it was.
-pub fn rotate(record: &[u8], steps: u16, out: &mut [u8]) -> Scheduled
-    ensures { RecordScheduled (rotate_asked steps) (rotated_by steps) unturned «record».now out.old out.new result }
+pub fn rotate(record: &[u8], steps: u16, out: &mut [u8]) -> Result<Rewritten, Refused>
+    ensures { RecordScheduled (rotate_asked steps) (rotated_by steps) unturned «record».now out.old out.new (scheduled_in result) }
 {
-    let read = reader::read(record);
-    let refused = read.refusal;
-    if !refused.is_fine() {
-        return Scheduled {
-            refusal: refused,
-            size: 0,
-            rotations: 0,
-            cycle: Cycle::none(),
-        };
-    }
-    let times = tables::times_of(read.form);
-    let plan = rotate_plan(
-        read.form.header.edges,
-        &read.form.from,
-        &read.form.to,
-        &read.form.delays,
-        times,
-        steps,
-    );
-    plans::write_plan(read.form, plan, out)
+    let form = reader::read(record)?; // what the reader refuses comes first
+    let plan = rotate_plan(form.edges(), tables::times_of(form), steps)?;
+    plans::write_plan(form, plan, out)
 }

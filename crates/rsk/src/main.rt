@@ -7,113 +7,86 @@ mod work;
 
 ghost use Rattle.std.specs.Prelude.{◌≤◌, length};
 
-use commands::{Command, Number};
+use commands::Command;
 use std::env::{Env, FillError};
 use std::io;
+use work::{Repeating, Rewriting};
 
 // Puts the word at a place at the buffer's start, and tells its length: 0 where there is none, and where it is longer
 // than the buffer.
 pub(crate) fn word_at(rt: &impl Env, place: usize, word: &mut [u8]) -> usize
     ensures { result ≤ length word.new }
 {
-    match rt.arg(place, word) {
-        Ok(length) => length,
-        Err(_) => 0,
-    }
+    rt.arg(place, word).unwrap_or(0)
 }
 
 // Whether there is a word at a place.
 fn has_word(rt: &impl Env, place: usize) -> bool {
     let mut word = [0u8; 1];
-    match rt.arg(place, &mut word) {
-        Err(FillError::NotPresent) => false,
-        _ => true,
-    }
+    !matches!(rt.arg(place, &mut word), Err(FillError::NotPresent))
 }
 
 // How many words there are, the program's own name among them.
 fn word_count(rt: &impl Env) -> usize {
-    for place in 0..usize::MAX {
-        if !has_word(rt, place) {
-            return place;
-        }
-    }
-    usize::MAX
+    (0..usize::MAX)
+        .find(|place| !has_word(rt, *place))
+        .unwrap_or(usize::MAX)
 }
 
 // The number that the word at a place is.
-fn number_at(rt: &impl Env, place: usize) -> Number {
+fn number_at(rt: &impl Env, place: usize) -> Option<u16> {
     let mut word = [0u8; 4096];
     let length = word_at(rt, place, &mut word);
     commands::number_of(&word[..length])
 }
 
-// The commands without a number.
-fn alone(rt: &HostRuntime, command: Command, count: usize) -> io::Result<()> {
-    if count != 2 {
-        return tell::usage(rt);
-    }
-    match command {
-        Command::Judge => work::judge(rt),
-        Command::Floor => work::floor(rt),
-        Command::Listing => work::list(rt),
-        Command::Table => work::table(rt),
-        Command::Help => tell::help(rt),
-        _ => work::rewrite(rt, command, 0, 0),
-    }
-}
-
-// The commands that take how often the loop is run, and a file of start values if one is named.
-fn repeated(rt: &HostRuntime, command: Command, count: usize) -> io::Result<()> {
-    let number = number_at(rt, 2);
-    if count < 3 || 4 < count {
-        return tell::usage(rt);
-    }
-    match number {
-        Number::Is(k) => work::repeat(rt, command, k, count == 4),
-        Number::Not => tell::usage(rt),
+// How often the loop is run, and whether a file of start values is named.
+fn repeated(rt: &HostRuntime, repeating: Repeating, named: bool) -> io::Result<()> {
+    match number_at(rt, 2) {
+        Some(iterations) => work::repeat(rt, repeating, iterations, named),
+        None => tell::usage(rt),
     }
 }
 
 // A rotation takes its size.
-fn rotated(rt: &HostRuntime, count: usize) -> io::Result<()> {
-    let number = number_at(rt, 2);
-    if count != 3 {
-        return tell::usage(rt);
-    }
-    match number {
-        Number::Is(z) => work::rewrite(rt, Command::Rotate, z, 0),
-        Number::Not => tell::usage(rt),
+fn rotated(rt: &HostRuntime) -> io::Result<()> {
+    match number_at(rt, 2) {
+        Some(size) => work::rewrite(rt, Rewriting::Rotate(size)),
+        None => tell::usage(rt),
     }
 }
 
 // A search takes its count and its size.
-fn searched(rt: &HostRuntime, count: usize) -> io::Result<()> {
-    let rotations = number_at(rt, 2);
-    let size = number_at(rt, 3);
-    if count != 4 {
-        return tell::usage(rt);
+fn searched(rt: &HostRuntime) -> io::Result<()> {
+    match (number_at(rt, 2), number_at(rt, 3)) {
+        (Some(count), Some(size)) => work::rewrite(rt, Rewriting::Search(count, size)),
+        _ => tell::usage(rt),
     }
-    match rotations {
-        Number::Is(c) => match size {
-            Number::Is(z) => work::rewrite(rt, Command::Search, c, z),
-            Number::Not => tell::usage(rt),
-        },
-        Number::Not => tell::usage(rt),
+}
+
+// A command with so many words, the program's own name and the command among them.
+fn obeyed(rt: &HostRuntime, command: Command, count: usize) -> io::Result<()> {
+    match (command, count) {
+        (Command::Judge, 2) => work::judge(rt),
+        (Command::Floor, 2) => work::floor(rt),
+        (Command::Listing, 2) => work::list(rt),
+        (Command::Table, 2) => work::table(rt),
+        (Command::Help, 2) => tell::help(rt),
+        (Command::Fit, 2) => work::rewrite(rt, Rewriting::Fit),
+        (Command::First, 2) => work::rewrite(rt, Rewriting::First),
+        (Command::Rotate, 3) => rotated(rt),
+        (Command::Search, 4) => searched(rt),
+        (Command::Run, 3 | 4) => repeated(rt, Repeating::Run, count == 4),
+        (Command::Plain, 3 | 4) => repeated(rt, Repeating::Plain, count == 4),
+        _ => tell::usage(rt),
     }
 }
 
 fn main(rt: HostRuntime) -> io::Result<()> {
-    let count = word_count(&rt);
     let mut word = [0u8; 4096];
     let length = word_at(&rt, 1, &mut word);
-    let command = commands::command_of(&word[..length]);
-    match command {
-        Command::Unknown => tell::usage(&rt),
-        Command::Rotate => rotated(&rt, count),
-        Command::Search => searched(&rt, count),
-        Command::Run => repeated(&rt, command, count),
-        Command::Plain => repeated(&rt, command, count),
-        _ => alone(&rt, command, count),
+    match commands::command_of(&word[..length]) {
+        Some(command) => obeyed(&rt, command, word_count(&rt)),
+        None => tell::usage(&rt),
     }
 }

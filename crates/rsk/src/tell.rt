@@ -1,6 +1,7 @@
 // What a person is told: usage, help, refusals and reasons.
 ghost use Rattle.std.specs.Prelude.{◌≤◌, length, take, ◌≡◌};
 
+use form::Form;
 use std::io;
 
 fn usage_to(to: &impl Print) -> io::Result<()> {
@@ -34,25 +35,16 @@ pub(crate) fn size_in(size: u32, out: &[u8]) -> usize
     (size as usize).min(out.len())
 }
 
-fn wide(x: u8) -> u32 {
-    x as u32
-}
-
 // The node at an edge's end; 0 where there is no such edge.
-pub(crate) fn end_of(ends: &[u8; 256], edge: u32) -> u32 {
-    if 256 <= edge {
-        return 0;
-    }
-    wide(ends[edge as usize])
+fn end_of(ends: &[u8; 256], edge: u32) -> u32 {
+    ends.get(edge as usize).map_or(0, |node| u32::from(*node))
 }
 
 // The line of a refusal.
 pub(crate) fn refusal(rt: &HostRuntime, record: &[u8], answer: &[u32; 69]) -> io::Result<()> {
-    let read = reader::read(record);
-    let form = read.form;
-    let edge = answer[1];
-    let from = end_of(&form.from, edge);
-    let to = end_of(&form.to, edge);
+    // what the reader refuses has no edge's ends
+    let ends = |form: Form| (end_of(&form.from, answer[1]), end_of(&form.to, answer[1]));
+    let (from, to) = reader::read(record).map_or((0, 0), ends);
     let mut text = [0u8; 4096];
     let size = words::put_refusal(&mut text, answer, from, to);
     let length = size_in(size as u32, &text);
@@ -61,10 +53,8 @@ pub(crate) fn refusal(rt: &HostRuntime, record: &[u8], answer: &[u32; 69]) -> io
 
 // The system's words for an error, without its number.
 fn without_number(told: &str) -> &str {
-    match told.split_once(" (os error ") {
-        Some((words, _)) => words,
-        None => told,
-    }
+    told.split_once(" (os error ")
+        .map_or(told, |(words, _)| words)
 }
 
 // The line of a file that is not opened: its name, and why.
@@ -87,27 +77,16 @@ pub(crate) fn print_field(rt: &impl Print, word: &[u8], number: u32) -> io::Resu
     print_number(rt, number)
 }
 
-// The node that an edge leaves, if the cycle goes on so far.
-fn print_member(rt: &impl Print, ends: &[u8; 256], edge: u32, member: bool) -> io::Result<()> {
-    if member {
-        print_field(rt, b" ", end_of(ends, edge))?;
-    }
-    Ok(())
-}
-
 // The nodes of an answer's cycle, by the edges that leave them.
 fn print_cycle(rt: &impl Print, ends: &[u8; 256], answer: &[u32; 69]) -> io::Result<()> {
-    let count = answer[4];
-    for i in 0..64usize {
-        print_member(rt, ends, answer[5 + i], (i as u32) < count)?;
+    for edge in answer[5..].iter().take(answer[4] as usize) {
+        print_field(rt, b" ", end_of(ends, *edge))?;
     }
     Ok(())
 }
 
 // A floor and its reason.
 pub(crate) fn print_floor(rt: &impl Print, record: &[u8], answer: &[u32; 69]) -> io::Result<()> {
-    let read = reader::read(record);
-    let form = read.form;
     print_field(rt, b"floor ", answer[1])?;
     match answer[2] {
         1 => rt.write_all(b", part a: the largest latency of a used class\n"),
@@ -117,7 +96,9 @@ pub(crate) fn print_floor(rt: &impl Print, record: &[u8], answer: &[u32; 69]) ->
         }
         _ => {
             rt.write_all(b", part c: the cycle of nodes")?;
-            print_cycle(rt, &form.from, answer)?;
+            if let Ok(form) = reader::read(record) {
+                print_cycle(rt, &form.from, answer)?;
+            }
             rt.write_all(b"\n")
         }
     }

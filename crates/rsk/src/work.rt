@@ -2,9 +2,24 @@
 ghost use Rattle.std.specs.Prelude.{◌≡◌, ◌≤◌, length};
 
 use crate::{tell, word_at};
-use commands::Command;
 use std::fs::File;
 use std::io;
+
+// What writes a record, with its numbers.
+#[derive(Clone, Copy)]
+pub(crate) enum Rewriting {
+    Fit,
+    First,
+    Rotate(u16),
+    Search(u16, u16),
+}
+
+// What repeats the loop.
+#[derive(Clone, Copy)]
+pub(crate) enum Repeating {
+    Run,
+    Plain,
+}
 
 pub(crate) fn judge(rt: &HostRuntime) -> io::Result<()> {
     let mut bytes = [0u8; 4096];
@@ -51,7 +66,7 @@ fn page() -> [u8; 131072]
 
 fn draw(rt: &impl Print, record: &[u8]) -> io::Result<()> {
     let mut out = page();
-    let drawn = drawing::draw(record, &mut out);
+    let drawn = drawing::draw(record, &mut out).unwrap_or(0);
     let size = tell::size_in(drawn, &out);
     rt.write_all(&out[..size])
 }
@@ -64,39 +79,31 @@ pub(crate) fn table(rt: &HostRuntime) -> io::Result<()> {
         return tell::refusal(rt, &bytes[..length], &answer);
     }
     draw(rt, &bytes[..length])?;
-    let read = reader::read(&bytes[..length]);
-    let form = read.form;
+    let steps = reader::read(&bytes[..length]).map_or(0, |form| form.header.length);
     rsk_c::rsk_floor(&bytes[..length], &mut answer);
     tell::print_floor(rt, &bytes[..length], &answer)?;
-    if form.header.length as u32 == answer[1] {
+    if u32::from(steps) == answer[1] {
         return rt.write_all(b"shortest\n");
     }
     rt.write_all(b"open\n")
 }
 
-// A command that writes a record, with its numbers; what it refuses.
-fn ask(
-    command: Command,
-    record: &[u8],
-    a: u16,
-    b: u16,
-    out: &mut [u8],
-    answer: &mut [u32; 69],
-) -> u32 {
-    match command {
-        Command::Fit => rsk_c::rsk_fit(record, out, answer),
-        Command::First => rsk_c::rsk_first(record, out, answer),
-        Command::Rotate => rsk_c::rsk_rotate(record, a, out, answer),
-        _ => rsk_c::rsk_search(record, a, b, out, answer),
+// A record written into `out`; what is refused. One arm for one export: C names no function by a value.
+fn ask(rewriting: Rewriting, record: &[u8], out: &mut [u8], answer: &mut [u32; 69]) -> u32 {
+    match rewriting {
+        Rewriting::Fit => rsk_c::rsk_fit(record, out, answer),
+        Rewriting::First => rsk_c::rsk_first(record, out, answer),
+        Rewriting::Rotate(size) => rsk_c::rsk_rotate(record, size, out, answer),
+        Rewriting::Search(count, size) => rsk_c::rsk_search(record, count, size, out, answer),
     }
 }
 
-pub(crate) fn rewrite(rt: &HostRuntime, command: Command, a: u16, b: u16) -> io::Result<()> {
+pub(crate) fn rewrite(rt: &HostRuntime, rewriting: Rewriting) -> io::Result<()> {
     let mut bytes = [0u8; 4096];
     let length = streams::read_full(&mut rt.stdin(), &mut bytes)?;
     let mut out = [0u8; 4096];
     let mut answer = [0u32; 69];
-    if ask(command, &bytes[..length], a, b, &mut out, &mut answer) != 0 {
+    if ask(rewriting, &bytes[..length], &mut out, &mut answer) != 0 {
         return tell::refusal(rt, &bytes[..length], &answer);
     }
     let size = tell::size_in(answer[1], &out);
@@ -110,90 +117,46 @@ fn room() -> [u32; 262144]
     [0; 262144]
 }
 
-// A number of 32 bits, its lowest byte first.
-fn four(a: u8, b: u8, c: u8, d: u8) -> u32 {
-    a as u32 + 256 * b as u32 + 65536 * c as u32 + 16777216 * d as u32
-}
-
-// The number at a place of a file's bytes.
-fn number_at(bytes: &[u8; 4096], at: usize) -> u32 {
-    if 4092 < at {
-        return 0;
-    }
-    four(bytes[at], bytes[at + 1], bytes[at + 2], bytes[at + 3])
-}
-
-// How many numbers so many bytes hold, 960 at most.
-fn whole_numbers(length: usize) -> usize
-    ensures { result ≤ 960 }
-{
-    if 3840 <= length {
-        return 960;
-    }
-    length / 4
-}
-
-// The start values in a file's bytes.
-fn starts_of(bytes: &[u8; 4096]) -> [u32; 960]
+// The start values in a file's bytes, lowest byte first; 0 past them.
+fn starts_of(bytes: &[u8]) -> [u32; 960]
     ensures { length result ≡ 960 }
 {
     let mut starts = [0u32; 960];
-    for i in 0..960usize {
-        starts[i] = number_at(bytes, 4 * i);
+    let (numbers, _) = bytes.as_chunks::<4>();
+    for (start, number) in starts.iter_mut().zip(numbers) {
+        *start = u32::from_le_bytes(*number);
     }
     starts
 }
 
-// Where the values of the last iteration begin.
-fn last_of(k: u16, nodes: u8) -> usize
-    requires { 1 ≤ k }
-    ensures { result ≤ 16711425 }
-{
-    (k as usize - 1) * nodes as usize
-}
-
-// The value of a node.
-fn print_value(rt: &impl Print, values: &[u32], place: usize, node: u32) -> io::Result<()> {
-    if values.len() <= place {
+// The values of the last iteration, if there is one.
+fn print_last(rt: &impl Print, values: &[u32], iterations: u16, nodes: u8) -> io::Result<()> {
+    let Some(last) = iterations.checked_sub(1) else {
         return Ok(());
-    }
-    tell::print_field(rt, b"node ", node)?;
-    tell::print_field(rt, b": ", values[place])?;
-    rt.write_all(b"\n")
-}
-
-// The values of an iteration, from a place on.
-fn print_values(rt: &impl Print, values: &[u32], from: usize, nodes: usize) -> io::Result<()>
-    requires { (from ≤ 16711425) × (nodes ≤ 255) }
-{
-    for v in 0..nodes {
-        print_value(rt, values, from + v, v as u32)?;
+    };
+    let from = usize::from(last) * usize::from(nodes);
+    for (node, value) in (0..nodes).zip(values.iter().skip(from)) {
+        tell::print_field(rt, b"node ", u32::from(node))?;
+        tell::print_field(rt, b": ", *value)?;
+        rt.write_all(b"\n")?;
     }
     Ok(())
 }
 
-// The values of the last iteration, if there is one.
-fn print_last(rt: &impl Print, values: &[u32], k: u16, nodes: u8) -> io::Result<()> {
-    if k == 0 {
-        return Ok(());
-    }
-    print_values(rt, values, last_of(k, nodes), nodes as usize)
-}
-
 // The number of run steps, which the plain loop has not.
-fn print_steps(rt: &impl Print, command: Command, steps: u32) -> io::Result<()> {
-    match command {
-        Command::Run => {
+fn print_steps(rt: &impl Print, repeating: Repeating, steps: u32) -> io::Result<()> {
+    match repeating {
+        Repeating::Run => {
             tell::print_field(rt, b"run steps ", steps)?;
             rt.write_all(b"\n")
         }
-        _ => Ok(()),
+        Repeating::Plain => Ok(()),
     }
 }
 
 // The run or the plain loop; what it refuses.
 fn ask_repeat<'a>(
-    command: Command,
+    repeating: Repeating,
     record: &'a [u8],
     k: u16,
     starts: &'a [u32],
@@ -201,21 +164,21 @@ fn ask_repeat<'a>(
     finish: &mut [u32],
     answer: &mut [u32; 69],
 ) -> u32 {
-    match command {
-        Command::Run => rsk_c::rsk_run(record, k, starts, values, finish, answer),
-        _ => rsk_c::rsk_plain(record, k, starts, values, answer),
+    match repeating {
+        Repeating::Run => rsk_c::rsk_run(record, k, starts, values, finish, answer),
+        Repeating::Plain => rsk_c::rsk_plain(record, k, starts, values, answer),
     }
 }
 
 // The record run, or looped over plainly, from start values.
-fn repeat_from(rt: &HostRuntime, command: Command, k: u16, starts: &[u32]) -> io::Result<()> {
+fn repeat_from(rt: &HostRuntime, repeating: Repeating, k: u16, starts: &[u32]) -> io::Result<()> {
     let mut bytes = [0u8; 4096];
     let length = streams::read_full(&mut rt.stdin(), &mut bytes)?;
     let mut values = room();
     let mut finish = room();
     let mut answer = [0u32; 69];
     let refused = ask_repeat(
-        command,
+        repeating,
         &bytes[..length],
         k,
         starts,
@@ -226,39 +189,43 @@ fn repeat_from(rt: &HostRuntime, command: Command, k: u16, starts: &[u32]) -> io
     if refused != 0 {
         return tell::refusal(rt, &bytes[..length], &answer);
     }
-    let read = reader::read(&bytes[..length]);
-    let form = read.form;
-    print_steps(rt, command, answer[1])?;
-    print_last(rt, &values, k, form.header.nodes)
+    let nodes = reader::read(&bytes[..length]).map_or(0, |form| form.header.nodes);
+    print_steps(rt, repeating, answer[1])?;
+    print_last(rt, &values, k, nodes)
 }
 
 // From the start values of the file that is named after K.
-fn repeat_named(rt: &HostRuntime, command: Command, k: u16, file: &mut File) -> io::Result<()> {
+fn repeat_named(rt: &HostRuntime, repeating: Repeating, k: u16, file: &mut File) -> io::Result<()> {
     let mut bytes = [0u8; 4096];
     let length = streams::read_full(file, &mut bytes)?;
-    let count = whole_numbers(length);
-    let starts = starts_of(&bytes);
-    repeat_from(rt, command, k, &starts[..count])
+    let starts = starts_of(&bytes[..length]);
+    let count = (length / 4).min(960);
+    repeat_from(rt, repeating, k, &starts[..count])
 }
 
 // The file of a name.
 fn open_read(rt: &HostRuntime, name: &[u8]) -> io::Result<File> {
-    match str::from_utf8(name) {
-        Ok(path) => File::open(rt, path),
-        Err(_) => Err(io::Error::new(io::ErrorKind::InvalidInput, "the name is not UTF-8")),
-    }
+    let path = str::from_utf8(name).map_err(|_| io::Error::new(
+        io::ErrorKind::InvalidInput,
+        "the name is not UTF-8",
+    ))?;
+    File::open(rt, path)
 }
 
 // The start values are all 0, or a file's.
-pub(crate) fn repeat(rt: &HostRuntime, command: Command, k: u16, named: bool) -> io::Result<()> {
+pub(crate) fn repeat(
+    rt: &HostRuntime,
+    repeating: Repeating,
+    k: u16,
+    named: bool,
+) -> io::Result<()> {
+    if !named {
+        return repeat_from(rt, repeating, k, &[0; 960]);
+    }
     let mut name = [0u8; 4096];
     let long = word_at(rt, 3, &mut name);
-    if !named {
-        let starts = [0u32; 960];
-        return repeat_from(rt, command, k, &starts);
-    }
     match open_read(rt, &name[..long]) {
-        Ok(mut file) => repeat_named(rt, command, k, &mut file),
+        Ok(mut file) => repeat_named(rt, repeating, k, &mut file),
         Err(error) => tell::failed(rt, &name[..long], &error),
     }
 }

@@ -1,37 +1,42 @@
 -- What an exported function leaves: the number and the list of an answer of the library that meets its contract.
 -- Assumes nothing.
-use Rattle.std.specs.Prelude.{◌≡◌, List, ℕ}
-use Rattle.answer.specs.Refused.{number_of, details}
+use Rattle.std.specs.Prelude.{◌≡◌, List, ℕ, Result, Ok, Err}
+use Rattle.answer.specs.Refused.{Verdict, number_of, details}
 use Rattle.answer.specs.Outcome.{no_cycle, told_of, told_list}
-use Rattle.answer.specs.declared.Refusal.{Refusal}
+use Rattle.answer.specs.declared.Refused.{Refused}
 use Rattle.answer.specs.declared.Details.{Details}
 use Rattle.answer.specs.declared.Cycle.{Cycle}
-use Rattle.judge.specs.declared.Judged.{Judged}
+use Rattle.judge.specs.Outcome.{Ruling}
 use Rattle.judge.specs.Judgement.{RecordJudgement}
 use Rattle.fit.specs.Fitting.{RecordFitted}
-use Rattle.plans.specs.declared.Scheduled.{Scheduled}
+use Rattle.plans.specs.Outcome.{Scheduled}
 use Rattle.turning.specs.Rotation.{first_form}
 use Rattle.plans.specs.Scheduling.{RecordScheduled, unturned}
 use Rattle.rotation.specs.Rotating.{first_asked, rotate_asked, rotated_by}
 use Rattle.search.specs.Searching.{search_asked, search_form, search_turns}
-use Rattle.run.specs.declared.Ran.{Ran}
+use Rattle.run.specs.Outcome.{Stepped}
 use Rattle.run.specs.Running.{RecordRun}
-use Rattle.plain.specs.declared.Looped.{Looped}
+use Rattle.plain.specs.Outcome.{Looped}
 use Rattle.plain.specs.Answer.{RecordLooped}
-use Rattle.floor.specs.declared.Floored.{Floored}
+use Rattle.floor.specs.Outcome.{Floored}
 use Rattle.floor_part.specs.Numbers.{part_number, part_class}
 use Rattle.floor.specs.Floor.{RecordFloored}
 
 -- of an answer of type A: its contract, its refusal, what is told beside that, and its cycle
-pub record Answered (A : Type 0) (meets : A → Type 0) (refused : A → Refusal) (told : A → Details) (cycle : A → Cycle) (number : ℕ) (list : List ℕ) : Type 0 where
+pub record Answered (A : Type 0) (meets : A → Type 0) (refused : A → Verdict) (told : A → Details) (cycle : A → Cycle) (number : ℕ) (list : List ℕ) : Type 0 where
   pub given : A
   pub met : meets given
   pub number_is : number ≡ number_of (refused given)
   pub list_is : list ≡ told_list (refused given) (told given) (cycle given)
 
+-- the numbers of an outcome, all 0 where it is refused
+abbrev pub numbers_in : Result Details Refused → Details
+numbers_in (Ok numbers) = numbers
+numbers_in (Err e) = details 0 0 0
+
 -- a record judged: no numbers
 abbrev pub JudgeAnswered : List ℕ → ℕ → List ℕ → Type 0
-JudgeAnswered s = Answered Judged (RecordJudgement s) (λ j. j.refusal) (λ j. told_of j.refusal (details 0 0 0)) (λ j. j.cycle)
+JudgeAnswered s = Answered Ruling (RecordJudgement s) (λ j. j.refusal) (λ j. told_of j.refusal (details 0 0 0)) (λ j. j.cycle)
 
 -- a record fitted: its size
 abbrev pub FitAnswered : List ℕ → List ℕ → List ℕ → ℕ → List ℕ → Type 0
@@ -60,7 +65,7 @@ FloorAnswered s =
 -- a record run for k iterations: its run steps
 abbrev pub RunAnswered : ℕ → List ℕ → List ℕ → List ℕ → List ℕ → List ℕ → List ℕ → ℕ → List ℕ → Type 0
 RunAnswered k s starts values₀ finish₀ values finish =
-    Answered Ran (RecordRun s k starts values₀ finish₀ values finish) (λ x. x.refusal) (λ x. told_of x.refusal (details x.steps 0 0)) (λ x. no_cycle)
+    Answered Stepped (RecordRun s k starts values₀ finish₀ values finish) (λ x. x.refusal) (λ x. told_of x.refusal (details x.steps 0 0)) (λ x. no_cycle)
 
 -- the plain loop of a record for k iterations: no numbers
 abbrev pub PlainAnswered : ℕ → List ℕ → List ℕ → List ℕ → List ℕ → ℕ → List ℕ → Type 0

@@ -5,7 +5,7 @@ use Rattle.lists.specs.Pick.{pick}
 use Rattle.answer.specs.Refused.{fine, details}
 use Rattle.answer.specs.Outcome.{no_cycle, answer_list}
 use Rattle.reader.specs.Reading.{read_form}
-use Rattle.writer.specs.declared.Written.{Written}
+use Rattle.writer.specs.Outcome.{Written}
 use Rattle.writer.specs.Writing.{written, buffer_after}
 
 -- the refusal, or the size of the record written into so much room

@@ -1,30 +1,46 @@
 // What C and Rust link. Each function takes a record's bytes first and an answer last, and has no requires.
+// Buffers stand side by side and an answer is 69 numbers: the C interface has them so.
 #![tactic(auto)]
 
 ghost use Rattle.std.specs.Prelude.{◌≡◌, length};
 ghost use Rattle.answer.specs.Refused.{number_of};
+ghost use Rattle.answer.specs.Outcome.{answer_list, refused_in, handed_in};
+ghost use Rattle.writer.specs.Outcome.{written_in};
 ghost use Rattle.rsk_c.specs.Rewrite.{rewritten, rewritten_out, rewritten_answer};
-ghost use Rattle.rsk_c.specs.Answered.{JudgeAnswered, FitAnswered, FirstAnswered, RotateAnswered, SearchAnswered, FloorAnswered, RunAnswered, PlainAnswered};
+ghost use Rattle.rsk_c.specs.Answered.{numbers_in, JudgeAnswered, FitAnswered, FirstAnswered, RotateAnswered, SearchAnswered, FloorAnswered, RunAnswered, PlainAnswered};
 ghost use Rattle.rsk_c.specs.List.{listed_answer};
 ghost use Rattle.listing.specs.Lines.{listed, listed_buffer};
 
-use answer::Cycle;
+use answer::{Details, Refusal, Refused, numbers_of};
+
+// What is answered, as others link it: its numbers, or its refusal with the cycle that proves it.
+fn told(answer: &mut [u32; 69], outcome: Result<Details, Refused>) -> u32
+    ensures { (result ≡ number_of (refused_in outcome)) × (answer.new ≡ answer_list (refused_in outcome) (numbers_in outcome) (handed_in outcome)) }
+{
+    match outcome {
+        Ok(numbers) => answer::tell(answer, numbers, None),
+        Err(refused) => answer::refuse(answer, refused),
+    }
+}
+
+// The form that is read written again; its size.
+fn rewrite(record: &[u8], out: &mut [u8]) -> Result<u32, Refusal>
+    ensures { (written_in result ≡ rewritten «record».now (length out.old)) × (out.new ≡ rewritten_out «record».now out.old) }
+{
+    let form = reader::read(record)?;
+    writer::write_taken(form, out)
+}
 
 // The record read and written again; its size.
 #[unsafe(no_mangle)]
+#[tactic(auto, unfolding(crate::specs::Rewrite::rewritten_answer))]
 pub extern "C" fn rsk_rewrite(record: &[u8], out: &mut [u8], answer: &mut [u32; 69]) -> u32
     ensures value { result ≡ number_of (rewritten «record».now (length out.old)).refusal }
     ensures out_after { out.new ≡ rewritten_out «record».now out.old }
     ensures answer_after { answer.new ≡ rewritten_answer «record».now (length out.old) }
 {
-    let read = reader::read(record);
-    let refusal = read.refusal;
-    if !refusal.is_fine() {
-        return answer::fill(answer, refusal, 0, 0, 0, Cycle::none());
-    }
-    let written = writer::write_taken(read.form, out);
-    let refused = written.refusal;
-    answer::fill(answer, refused, written.size, 0, 0, Cycle::none())
+    let written = rewrite(record, out).map_err(Refused::from);
+    told(answer, written.map(|size| numbers_of(size, 0, 0)))
 }
 
 // The record judged; no numbers.
@@ -33,9 +49,7 @@ pub extern "C" fn rsk_judge(record: &[u8], answer: &mut [u32; 69]) -> u32
     ensures { JudgeAnswered «record».now result answer.new }
 {
     let judged = judge::judge(record);
-    let refusal = judged.refusal;
-    let knot = judged.cycle;
-    answer::fill(answer, refusal, 0, 0, 0, knot)
+    told(answer, judged.map(|_| numbers_of(0, 0, 0)))
 }
 
 // The record with its retiming fitted afresh; its size.
@@ -44,9 +58,7 @@ pub extern "C" fn rsk_fit(record: &[u8], out: &mut [u8], answer: &mut [u32; 69])
     ensures { FitAnswered «record».now out.old out.new result answer.new }
 {
     let fitted = fit::fit(record, out);
-    let refusal = fitted.refusal;
-    let cycle = fitted.cycle;
-    answer::fill(answer, refusal, fitted.size, 0, 0, cycle)
+    told(answer, fitted.map(|new| numbers_of(new.size, 0, 0)))
 }
 
 // The record with its first schedule; its size.
@@ -55,9 +67,7 @@ pub extern "C" fn rsk_first(record: &[u8], out: &mut [u8], answer: &mut [u32; 69
     ensures { FirstAnswered «record».now out.old out.new result answer.new }
 {
     let scheduled = rotation::first(record, out);
-    let refusal = scheduled.refusal;
-    let cycle = scheduled.cycle;
-    answer::fill(answer, refusal, scheduled.size, 0, 0, cycle)
+    told(answer, scheduled.map(|new| numbers_of(new.size, 0, 0)))
 }
 
 // The record rotated by z steps; its size.
@@ -66,9 +76,7 @@ pub extern "C" fn rsk_rotate(record: &[u8], z: u16, out: &mut [u8], answer: &mut
     ensures { RotateAnswered z «record».now out.old out.new result answer.new }
 {
     let rotated = rotation::rotate(record, z, out);
-    let refusal = rotated.refusal;
-    let cycle = rotated.cycle;
-    answer::fill(answer, refusal, rotated.size, 0, 0, cycle)
+    told(answer, rotated.map(|new| numbers_of(new.size, 0, 0)))
 }
 
 // The record with the shortest pair of a search; its size and the rotations completed.
@@ -83,9 +91,10 @@ pub extern "C" fn rsk_search(
     ensures { SearchAnswered count size «record».now out.old out.new result answer.new }
 {
     let found = search::search(record, count, size, out);
-    let refusal = found.refusal;
-    let cycle = found.cycle;
-    answer::fill(answer, refusal, found.size, found.rotations, 0, cycle)
+    told(
+        answer,
+        found.map(|new| numbers_of(new.size, new.rotations, 0)),
+    )
 }
 
 // The floor of the record: the floor, the part that attains it, and the class for part b.
@@ -93,25 +102,26 @@ pub extern "C" fn rsk_search(
 pub extern "C" fn rsk_floor(record: &[u8], answer: &mut [u32; 69]) -> u32
     ensures { FloorAnswered «record».now result answer.new }
 {
-    let floored = floor::floor(record);
-    let refusal = floored.refusal;
-    let part = floored.part;
-    let cycle = floored.cycle;
-    let number = floor_part::part_number(part);
-    let class = floor_part::part_class(part);
-    answer::fill(answer, refusal, floored.floor, number, class, cycle)
+    let attained = match floor::floor(record) {
+        Ok(attained) => attained,
+        Err(refused) => return answer::refuse(answer, refused),
+    };
+    let number = floor_part::part_number(attained.part);
+    let class = floor_part::part_class(attained.part);
+    let numbers = numbers_of(attained.floor, number, class);
+    answer::tell(answer, numbers, floor_part::part_cycle(attained.part))
 }
 
 // The record's listing as text; its size.
 #[unsafe(no_mangle)]
+#[tactic(auto, unfolding(crate::specs::List::listed_answer))]
 pub extern "C" fn rsk_list(record: &[u8], out: &mut [u8], answer: &mut [u32; 69]) -> u32
     ensures value { result ≡ number_of (listed «record».now (length out.old)).refusal }
     ensures out_after { out.new ≡ listed_buffer «record».now out.old }
     ensures answer_after { answer.new ≡ listed_answer «record».now (length out.old) }
 {
-    let listed = listing::list(record, out);
-    let refusal = listed.refusal;
-    answer::fill(answer, refusal, listed.size, 0, 0, Cycle::none())
+    let listed = listing::list(record, out).map_err(Refused::from);
+    told(answer, listed.map(|size| numbers_of(size, 0, 0)))
 }
 
 // The record stepped on the machine for k iterations; its run steps.
@@ -126,9 +136,8 @@ pub extern "C" fn rsk_run<'a>(
 ) -> u32
     ensures { RunAnswered k «record».now starts.now values.old finish.old values.new finish.new result answer.new }
 {
-    let ran = run::run(record, k, starts, values, finish);
-    let refusal = ran.refusal;
-    answer::fill(answer, refusal, ran.steps, 0, 0, Cycle::none())
+    let ran = run::run(record, k, starts, values, finish).map_err(Refused::from);
+    told(answer, ran.map(|steps| numbers_of(steps, 0, 0)))
 }
 
 // The plain loop of the record for k iterations; no numbers.
@@ -143,7 +152,5 @@ pub extern "C" fn rsk_plain(
     ensures { PlainAnswered k «record».now starts.now values.old values.new result answer.new }
 {
     let looped = plain::plain(record, k, starts, values);
-    let refusal = looped.refusal;
-    let cycle = looped.cycle;
-    answer::fill(answer, refusal, 0, 0, 0, cycle)
+    told(answer, looped.map(|_| numbers_of(0, 0, 0)))
 }

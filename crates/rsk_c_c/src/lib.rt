@@ -1,4 +1,5 @@
 // The archive that C and Rust link: each function of rsk_c under its own name, with its clauses again.
+// C has no generic functions: each name stands for itself.
 #![tactic(auto)]
 
 ghost use Rattle.std.specs.Prelude.{◌≡◌, length};

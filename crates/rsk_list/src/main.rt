@@ -9,7 +9,8 @@ fn main(rt: HostRuntime) -> io::Result<()> {
     let mut bytes = [0u8; 4096];
     let length = streams::read_full(&mut rt.stdin(), &mut bytes)?;
     let mut text = [0u8; 4096];
-    let listed = listing::list(&bytes[..length], &mut text);
-    let size = listed.size as usize;
-    rt.write_all(&text[..size])
+    if let Ok(size) = listing::list(&bytes[..length], &mut text) {
+        rt.write_all(&text[..size as usize])?;
+    }
+    Ok(())
 }

@@ -4,16 +4,14 @@ use mathlib.Core.Path.{◌≡◌, refl, sym, ap, ◌∙◌}
 use mathlib.Core.Bool.{Bool, true, false}
 use mathlib.Core.List.{List}
 use Prim.Native.Nat.{ℕ, zero, suc, ◌+◌, ◌-◌, ◌*◌, ◌/◌, ◌%◌, ◌≤◌, ◌<◌}
-use native.Mathlib.Nat.{mul-le-mul, sub-zero, zero-add, add-mul, mod-lt, div-eq_of_lt, div-add-mod'}
+use native.Mathlib.Nat.{mul-le-mul, zero-add, add-mul, mod-lt, div-eq_of_lt, div-add-mod'}
 use native.Mathlib.Numerals.{add-one}
 use native.Mathlib.Omega.{arith}
-use lib.ListN.{length, get_or}
-use borrow.Author.Rules.{rules}
-use borrow.Author.Tests.{le-ltb, lt-ltb, le-leb, lt-leb, eq-eqb, ne_eqb}
+use lib.ListN.{get_or}
+use borrow.Author.Tests.{le-ltb, lt-ltb}
 use lib.Dec.{eqb}
 use Rattle.lists.specs.Pick.{pick}
 use Rattle.lists.specs.Span.{span}
-use Rattle.lists.specs.First.{first_from, first-here, first_next}
 use Rattle.lists.specs.Fold.{sum_of, sum-snoc}
 use Rattle.lists.specs.Quotient.{divided}
 use Rattle.lists.specs.Sums.{bit}
@@ -26,40 +24,14 @@ use Rattle.tables.specs.Edges.{Ends, Told}
 use Rattle.tables.specs.Times.{Timed}
 use Rattle.rules.specs.Busy.{held_on, busy_in}
 
--- a definition's tests, settled from what a branch showed
-pub ruleset tests = (rules, le-ltb, lt-ltb, le-leb, lt-leb, eq-eqb, ne_eqb)
-
--- a product of two u16, which omega takes as an unknown
-pub product : (a b : ℕ) → a < 65536 → b < 65536 → a * b ≤ 4294836225
-product a b h k =
-    let ha : a ≤ 65535 = omega arith in
-    let hb : b ≤ 65535 = omega arith in
-    mul-le-mul ha hb
+-- a product of two u16, each as a wider number; omega takes it as an unknown
+pub product : (a b x y : ℕ) → a ≡ x → b ≡ y → x < 65536 → y < 65536 → (a * b ≡ x * y) × (x * y ≤ 4294836225)
+product a b x y e f h k =
+    let hx : x ≤ 65535 = omega arith in
+    let hy : y ≤ 65535 = omega arith in
+    (rw (e, f), mul-le-mul hx hy)
 
 -- ---- the edge rule
-
--- a search of n numbers: none is left
-pub left-none : (test : ℕ → Bool) (n left whole : ℕ) → left ≤ 0 → first_from test left (n - left) ≡ whole → n ≡ whole
-unfolding first_from
-left-none test n left whole none rest =
-    let zero_left : left ≡ 0 = omega arith in
-    sym (sub-zero n) ∙ rw zero_left at rest
-
--- or some are
-module _ (test : ℕ → Bool) (n left whole : ℕ) (some : 0 < left) (within : left ≤ n) (rest : first_from test left (n - left) ≡ whole) where
-  whole-rest : first_from test (n - (n - left)) (n - left) ≡ whole
-  whole-rest =
-      let back : n - (n - left) ≡ left = omega arith in
-      rw back rest
-
-  pub left_here : test (n - left) ≡ true → n - left ≡ whole
-  left_here passes = first-here test n (n - left) whole (omega arith) passes whole-rest
-
-  pub left-next : test (n - left) ≡ false → first_from test (left - 1) (n - (left - 1)) ≡ whole
-  left-next fails =
-      let less : left - 1 ≡ n - (n - left + 1) = omega arith in
-      let next : n - (left - 1) ≡ n - left + 1 = omega arith in
-      rw (next, less) (first_next test n (n - left) whole (omega arith) fails whole-rest)
 
 -- the steps in which head and tail begin, each some iterations later, so that no number is below 0
 pub record Sides (g : Loop) (p : Pair) (e head tail works : ℕ) : Type 0 where
@@ -109,13 +81,6 @@ module _ (l : ℕ) (ks ss : List ℕ) (c h q : ℕ) where
 
 -- ---- how often an operation holds a step, as the code computes it
 
--- the steps from one step of the body to another, over the end
-pub gap-forward : (l s q : ℕ) → 1 ≤ s → s ≤ q → q ≤ l → q - s ≡ (q + l - s) % l
-gap-forward l s q one le to = sym (divided 1 l (q - s) (q + l - s) (omega arith) (omega arith)).1
-
-pub gap-over : (l s q : ℕ) → q < s → 1 ≤ q → s ≤ l → l - (s - q) ≡ (q + l - s) % l
-gap-over l s q lt one to = sym (divided 0 l (l - (s - q)) (q + l - s) (omega arith) (omega arith)).1
-
 module _ (l s h q gap : ℕ) (from : 1 ≤ s) (to : s ≤ l) (one : 1 ≤ q) (within : q ≤ l) (is : gap ≡ (q + l - s) % l) where
   closed : held l s h q ≡ (h + l - 1 - gap) / l
   closed = held-closed l s q from to one within h ∙ ap (λ (x : ℕ). (h + l - 1 - x) / l) (sym is)
@@ -132,8 +97,8 @@ module _ (l s h q gap : ℕ) (from : 1 ≤ s) (to : s ≤ l) (one : 1 ≤ q) (wi
   pub held-once : gap < h → h ≤ l → 1 ≡ held l s h q
   held-once lt le = sym (more 0 (h - 1 - gap) (omega arith) (omega arith))
 
-  pub held-round : gap < h → 1 + (h - 1 - gap) / l ≡ held l s h q
-  held-round lt = sym (more ((h - 1 - gap) / l) ((h - 1 - gap) % l) (omega (arith, div-add-mod' (h - 1 - gap) l)) (mod-lt (h - 1 - gap) {m = l} (omega arith)))
+  pub held-round : (steps : ℕ) → steps ≡ h → gap < h → 1 + (steps - 1 - gap) / l ≡ held l s h q
+  held-round steps e lt = rw e (sym (more ((h - 1 - gap) / l) ((h - 1 - gap) % l) (omega (arith, div-add-mod' (h - 1 - gap) l)) (mod-lt (h - 1 - gap) {m = l} (omega arith))))
 
 -- and no more often than it has steps
 bit-one : (b : Bool) → bit b ≤ 1

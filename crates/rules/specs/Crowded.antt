@@ -1,6 +1,6 @@
 -- Steps that hold more of a class than its units: the lowest of them is one that a node of the class enters, by starting there or by running over the end into step 1; and the lowest is what the unit rule refuses.
 -- Assumes nothing.
-use Rattle.std.specs.Prelude.{◌≡◌, Bool, ◌&&◌, ◌≢◌, ◌⊎◌, leb}
+use Rattle.std.specs.Prelude.{◌≡◌, Bool, ◌&&◌, ◌≢◌, ◌⊎◌, leb, None, Some}
 use Rattle.std.proofs.Math.Path.{refl, sym, ap}
 use Rattle.std.proofs.Common.{◌∙◌, subst, mod-lt, mod-eq_of_lt, div-add-mod', suc-mul}
 use Rattle.std.proofs.Math.Bool.{true, false, true≢false}
@@ -18,7 +18,7 @@ use Rattle.lists.specs.Quotient.{divided}
 use Rattle.lists.specs.Span.{span}
 use Rattle.lists.specs.Fold.{sum_of}
 use Rattle.lists.specs.Sums.{bit, sum-le, sum-zero}
-use Rattle.answer.specs.declared.Refusal.TheVariants.{None, Units}
+use Rattle.answer.specs.declared.Refusal.TheVariants.{Units}
 use Rattle.form.specs.Hold.{hold}
 use Rattle.legal.specs.Loop.{Loop, Pair, ran_on}
 use Rattle.legal.specs.Held.{lands, held, held_none, held_more, held_plain}
@@ -197,14 +197,14 @@ module _ (g : Loop) (p : Pair) where
       record { begins = t.from; ends = h; class = l; is_over = k.passes (omega arith) }
 
   -- the lowest step with its lowest class is what the rule refuses
-  pub units-lowest : (q c : ℕ) → Over q c → ((k d : ℕ) → Over k d → (q < k) ⊎ ((q ≡ k) × (c ≤ d))) → Units q c ≡ units_of g p
+  pub units-lowest : (q c : ℕ) → Over q c → ((k d : ℕ) → Over k d → (q < k) ⊎ ((q ≡ k) × (c ≤ d))) → (Some (Units q c)) ≡ units_of g p
   unfolding units_of
   units-lowest q c o least =
       let s = step-le q c o in
       let in_body : over_step g p ≤ p.length = omega (arith, o.ends) in
       let e : q ≡ over_step g p = ⊎_elim (λ w. omega arith) (λ w. w.0) (least _ _ (found in_body)) in
       let e' : c ≡ over_class g p (over_step g p) = ⊎_elim (λ w. omega arith) (λ w. omega (arith, rw e at (class-le q c o.class o.is_over))) (least _ _ (found in_body)) in
-      sym (pick_true (leb (over_step g p) p.length) (Units (over_step g p) (over_class g p (over_step g p))) None (le-leb _ _ in_body) ∙ rw (← e', ← e))
+      sym (pick_true (leb (over_step g p) p.length) (Some (Units (over_step g p) (over_class g p (over_step g p)))) None (le-leb _ _ in_body) ∙ rw (← e', ← e))
 
   -- and where there is none it refuses nothing
   pub units-none : ((q c : ℕ) → Over q c → ⊥) → None ≡ units_of g p
@@ -212,5 +212,5 @@ module _ (g : Loop) (p : Pair) where
   units-none no-over =
       elim (dec_le (over_step g p) p.length) [
         | yes h ↦ absurd (no-over _ _ (found h))
-        | no h ↦ sym (pick-false (leb (over_step g p) p.length) (Units (over_step g p) (over_class g p (over_step g p))) None (lt-leb (over_step g p) p.length (omega arith)))
+        | no h ↦ sym (pick-false (leb (over_step g p) p.length) (Some (Units (over_step g p) (over_class g p (over_step g p)))) None (lt-leb (over_step g p) p.length (omega arith)))
       ]

@@ -1,6 +1,6 @@
 -- A step and a class as one number, its spot: the lowest spot of those seen at which the step holds more of the class than its units.
 -- Assumes nothing.
-use Rattle.std.specs.Prelude.{◌≡◌, Bool, ◌&&◌, ◌⊎◌, List, ℕ, ◌+◌, ◌*◌, ◌/◌, ◌%◌, ◌≤◌, ◌<◌, leb}
+use Rattle.std.specs.Prelude.{◌≡◌, Bool, ◌&&◌, ◌⊎◌, List, ℕ, ◌+◌, ◌*◌, ◌/◌, ◌%◌, ◌≤◌, ◌<◌, leb, None, Some}
 use Rattle.std.proofs.Math.Path.{refl, sym, ap, subst}
 use Rattle.std.proofs.Common.{◌∙◌, arith, eq-or-lt_of_le}
 use Rattle.std.proofs.Math.Bool.{true, false}
@@ -13,7 +13,7 @@ use Rattle.lists.specs.Pick.{pick, pick_true, pick-false, both_ways}
 use Rattle.lists.specs.Span.{span}
 use Rattle.lists.specs.Fold.{sum_of}
 use Rattle.lists.specs.Sums.{sum_same}
-use Rattle.answer.specs.declared.Refusal.TheVariants.{None, Units}
+use Rattle.answer.specs.declared.Refusal.TheVariants.{Units}
 use Rattle.form.specs.declared.Class.{Class}
 use Rattle.form.specs.Places.{no_class}
 use Rattle.form.specs.Hold.{hold}
@@ -77,9 +77,6 @@ module _ (g : Loop) (p : Pair) where
   pub record Lowest (Seen : ℕ → ℕ → Type 0) (spot : ℕ) : Type 0 where
     pub found : spot < spot_of p.length 4 → Found spot
     pub least : (q c : ℕ) → Seen q c → over g p q c ≡ true → spot ≤ spot_of q c
-
-  pub lowest-none : (Seen : ℕ → ℕ → Type 0) (spot : ℕ) → ((q c : ℕ) → Seen q c → ⊥) → spot_of p.length 4 ≤ spot → Lowest Seen spot
-  lowest-none Seen spot none e = record { found = λ h. absurd (omega arith); least = λ q c s. absurd (none q c s) }
 
   -- what is seen may be less
   pub lowest-fewer : (Seen Fewer : ℕ → ℕ → Type 0) (spot : ℕ) → ((q c : ℕ) → Fewer q c → Seen q c) → Lowest Seen spot → Lowest Fewer spot
@@ -182,7 +179,7 @@ module _ (g : Loop) (p : Pair) (seated : Seated g p) (spot : ℕ) (s : Lowest g 
         | no l ↦ inr (omega (arith, over-least q c o, o.class, seated.few), omega (arith, over-least q c o, o.class, seated.few))
       ]
 
-  pub lowest-units : spot < spot_of p.length 4 → Units (spot / 4) (spot % 4) ≡ units_of g p
+  pub lowest-units : spot < spot_of p.length 4 → (Some (Units (spot / 4) (spot % 4))) ≡ units_of g p
   lowest-units h =
       let t = s.found h in
       let small : t.class < 4 = omega (arith, t.is_over.class, seated.few) in

@@ -1,5 +1,6 @@
 -- A repetition that has come to one of its nodes: the nodes from there on give what the whole repetition gives.
 -- Assumes nothing.
+use Rattle.std.specs.Prelude.{None}
 use mathlib.Core.Path.{◌≡◌, refl, sym, ◌∙◌, ap, ap₂, subst}
 use mathlib.Core.Bool.{Bool, true, false, ◌&&◌, false≢true}
 use mathlib.Core.Logic.{◌≢◌}
@@ -16,9 +17,7 @@ use Rattle.lists.specs.Pick.{pick, pick_ind, pick_true, pick-false, both_ways}
 use Rattle.lists.specs.Fold.{fold}
 use Rattle.lists.specs.Both.{and_both}
 use Rattle.lists.specs.Quotient.{divided, rows-below}
-use Rattle.answer.specs.Refused.{fine}
-use Rattle.answer.specs.declared.Refusal.{Refusal}
-use Rattle.answer.specs.declared.Refusal.TheVariants.{None}
+use Rattle.answer.specs.Refused.{Verdict, fine}
 use Rattle.form.specs.declared.Form.{Form}
 use Rattle.form.specs.Places.{class_of, node_of, start_of, retiming_of}
 use Rattle.form.specs.Ranges.{WellFormed}
@@ -47,7 +46,7 @@ issue-none g p starts k t v m =
     (λ e. pick_ind (λ (r : Machine). fine r.refusal ≡ true → r.refusal ≡ None) _ _ _ (λ q h. refl) (λ q h. absurd (false≢true h)))
 
 -- what repetition j makes of the buffers, and what holds before the next if nothing is refused
-pub record Went (f : Form) (k : ℕ) (starts : List ℕ) (j : ℕ) (values₀ finish₀ values finish free : List ℕ) (why : Refusal) : Type 0 where
+pub record Went (f : Form) (k : ℕ) (starts : List ℕ) (j : ℕ) (values₀ finish₀ values finish free : List ℕ) (why : Verdict) : Type 0 where
   pub sized : SameSizes values₀ finish₀ values finish free
   pub is_repeated : machine_of values finish why ≡ repeated (loop_of f) (pair_of f) starts k (machine_of values₀ finish₀ None) j
   pub next : fine why ≡ true → (why ≡ None) × Before f k starts (j + 1) values finish free
@@ -183,7 +182,7 @@ module _ (f : Form) (k : ℕ) (starts : List ℕ) (j : ℕ) where
                 point-later (loop_of f) (pair_of f) starts k _ (t * f.header.nodes + get_or table i 0) finish free
                 (rw is-t (omega (arith, risen.0, add-mul (j * f.header.length) (start_of f (get_or table i 0)) f.header.nodes))) m.point
 
-            module _ (t : ℕ) (is-t : t ≡ j * f.header.length + start_of f (get_or table i 0)) (values' finish' free' : List ℕ) (why : Refusal)
+            module _ (t : ℕ) (is-t : t ≡ j * f.header.length + start_of f (get_or table i 0)) (values' finish' free' : List ℕ) (why : Verdict)
                 (size : SameSizes values finish values' finish' free')
                 (o : Outcome (loop_of f) (pair_of f) starts k t (get_or table i 0) (machine_of values finish None) (machine_of values' finish' why) free') where
               both-sized : SameSizes values₀ finish₀ values' finish' free'
@@ -208,7 +207,7 @@ module _ (f : Form) (k : ℕ) (starts : List ℕ) (j : ℕ) where
               unfolding loop_of graph_of
               midway-issues e = record {
                 sized = both-sized;
-                rest = subst (λ (x : Refusal). fold (visit_in (loop_of f) (pair_of f) starts k j) (machine_of values' finish' x) (drop (i + 1) (order (loop_of f) (pair_of f)))
+                rest = subst (λ (x : Verdict). fold (visit_in (loop_of f) (pair_of f) starts k j) (machine_of values' finish' x) (drop (i + 1) (order (loop_of f) (pair_of f)))
                     ≡ repeated (loop_of f) (pair_of f) starts k (machine_of values₀ finish₀ None) j) (none-refused e) rest-issued;
                 low = suc (start_of f (get_or table i 0) * f.header.nodes + get_or table i 0);
                 rising = risen.2;

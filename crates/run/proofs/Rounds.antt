@@ -1,5 +1,6 @@
 -- A run that has come to a repetition: the repetitions from there on give what all of them give.
 -- Assumes nothing.
+use Rattle.std.specs.Prelude.{None}
 use mathlib.Core.Path.{◌≡◌, refl, sym, ◌∙◌, ap, subst}
 use mathlib.Core.Bool.{true, false}
 use mathlib.Core.List.{List}
@@ -10,9 +11,7 @@ use native.Mathlib.Nat.{sub-zero}
 use lib.ListN.{length}
 use Rattle.lists.specs.Span.{span}
 use Rattle.lists.specs.Fold.{fold}
-use Rattle.answer.specs.Refused.{fine}
-use Rattle.answer.specs.declared.Refusal.{Refusal}
-use Rattle.answer.specs.declared.Refusal.TheVariants.{None}
+use Rattle.answer.specs.Refused.{Verdict, fine}
 use Rattle.form.specs.declared.Form.{Form}
 use Rattle.legal.specs.Loop.{loop_of, pair_of}
 use Rattle.machine.specs.Run.{Machine}
@@ -23,7 +22,7 @@ use Rattle.run.proofs.Midway.{Went}
 
 module _ (f : Form) (k deep : ℕ) (starts values₀ finish₀ : List ℕ) where
   -- what so many repetitions from j on make of the buffers
-  abbrev rounds_from : ℕ → List ℕ → List ℕ → Refusal → Machine
+  abbrev rounds_from : ℕ → List ℕ → List ℕ → Verdict → Machine
   rounds_from j values finish why = fold (repeated (loop_of f) (pair_of f) starts k) (machine_of values finish why) (span j (k + deep - j))
 
   pub record Rounds (j : ℕ) (values finish free : List ℕ) : Type 0 where
@@ -36,7 +35,7 @@ module _ (f : Form) (k deep : ℕ) (starts values₀ finish₀ : List ℕ) where
   rounds-begin free b = record { before = b; values_long = refl; finish_long = refl; rest = rw sub-zero }
 
   module _ (j : ℕ) (values finish free : List ℕ) (r : Rounds j values finish free) where
-    module _ (l : j < k + deep) (values' finish' free' : List ℕ) (why : Refusal) (w : Went f k starts j values finish values' finish' free' why) where
+    module _ (l : j < k + deep) (values' finish' free' : List ℕ) (why : Verdict) (w : Went f k starts j values finish values' finish' free' why) where
       next : rounds_from (j + 1) values' finish' why ≡ fold (repeated (loop_of f) (pair_of f) starts k) (machine_of values₀ finish₀ None) (span 0 (k + deep))
       unfolding fold span
       next =
@@ -52,7 +51,7 @@ module _ (f : Form) (k deep : ℕ) (starts values₀ finish₀ : List ℕ) where
         before = (w.next e).1;
         values_long = w.sized.values_long ∙ r.values_long;
         finish_long = w.sized.finish_long ∙ r.finish_long;
-        rest = subst (λ (x : Refusal). rounds_from (j + 1) values' finish' x ≡ fold (repeated (loop_of f) (pair_of f) starts k) (machine_of values₀ finish₀ None) (span 0 (k + deep))) (w.next e).0 next;
+        rest = subst (λ (x : Verdict). rounds_from (j + 1) values' finish' x ≡ fold (repeated (loop_of f) (pair_of f) starts k) (machine_of values₀ finish₀ None) (span 0 (k + deep))) (w.next e).0 next;
       }
 
       -- one that is refused, and so is the run

@@ -1,10 +1,9 @@
 -- What a run needs before it goes, what holds before each of its repetitions, and what all of them make of the buffers.
 -- Assumes nothing.
-use Rattle.std.specs.Prelude.{◌≡◌, ◌≢◌, List, ℕ, ◌+◌, ◌*◌, ◌≤◌, length, get_or, take}
+use Rattle.std.specs.Prelude.{◌≡◌, ◌≢◌, List, ℕ, ◌+◌, ◌*◌, ◌≤◌, length, get_or, take, None}
 use Rattle.lists.specs.Span.{span}
 use Rattle.lists.specs.Fold.{fold}
-use Rattle.answer.specs.declared.Refusal.{Refusal}
-use Rattle.answer.specs.declared.Refusal.TheVariants.{None}
+use Rattle.answer.specs.Refused.{Verdict}
 use Rattle.form.specs.declared.Form.{Form}
 use Rattle.form.specs.Ranges.{WellFormed}
 use Rattle.legal.specs.Loop.{loop_of, pair_of}
@@ -31,7 +30,7 @@ pub record Before (f : Form) (k : ℕ) (starts : List ℕ) (j : ℕ) (values fin
   pub point : Point (loop_of f) (pair_of f) starts k ((j * f.header.length + 1) * f.header.nodes) finish free
 
 -- what all repetitions make of them
-pub record Repetitions (f : Form) (k deep : ℕ) (starts values₀ finish₀ values finish : List ℕ) (why : Refusal) : Type 0 where
+pub record Repetitions (f : Form) (k deep : ℕ) (starts values₀ finish₀ values finish : List ℕ) (why : Verdict) : Type 0 where
   pub values_long : length values ≡ length values₀
   pub finish_long : length finish ≡ length finish₀
   pub are_repeated : machine_of values finish why ≡ fold (repeated (loop_of f) (pair_of f) starts k) (machine_of values₀ finish₀ None) (span 0 (k + deep))

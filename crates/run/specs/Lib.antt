@@ -1,3 +1,4 @@
+pub mod Outcome
 pub mod Order
 pub mod Repeats
 pub mod Repeat

@@ -4,22 +4,17 @@
 ghost use Rattle.std.specs.Prelude.{◌≡◌, ◌≤◌};
 ghost use Rattle.form.specs.declared.Form.{Form};
 ghost use Rattle.tables.specs.Times.{times_of};
-ghost use Rattle.plans.specs.Tabled.{Tabled};
+ghost use Rattle.plans.specs.Outcome.{plan_in, scheduled_in};
+ghost use Rattle.plans.specs.Tabled.{TabledBy};
 ghost use Rattle.plans.specs.Scheduling.{Planned, RecordScheduled};
-ghost use Rattle.turning.specs.Lending.{Unknotted};
+ghost use Rattle.turning.specs.Lending.{UnknottedBy};
 ghost use Rattle.search.specs.Search.{halved, shorter};
 ghost use Rattle.search.specs.Searching.{search_asked, search_form, search_turns, Answers};
 
-use answer::{Cycle, Refusal};
-use plans::{Plan, Scheduled};
+use answer::{Refusal, Refused};
+use form::Edges;
+use plans::{Rewritten, Turned};
 use tables::Timetable;
-
-// The timetable with the shortest pair that a search of a form met, and the rotations completed.
-#[derive(Clone, Copy)]
-pub struct Found {
-    pub times: Timetable,
-    pub rotations: u32,
-}
 
 // A size halved while it is at least the length.
 fn halve(size: u16, length: u16) -> u16
@@ -43,108 +38,56 @@ fn shorter_of(old: Timetable, new: Timetable) -> Timetable
     old
 }
 
+// The shortest timetable met, and the rotations completed.
+fn found(times: Timetable, rotations: u32) -> Turned
+    ensures { (result.times ≡ times) × (result.rotations ≡ rotations) }
+{
+    Turned { rotations, times }
+}
+
 // Up to `count` rotations from the first schedule on, by the size halved while it is at least the length at hand.
 // A rotation costs at most some N*(N+E) steps for the weights, E+9*N for each of 1023 steps of the list rule, and N*E for
 // the fit, under a million at 64 nodes and 256 edges; a search makes at most `count` of them after the first schedule.
-pub fn search_times<'a>(
-    edges: u16,
-    from: &'a [u8; 256],
-    to: &'a [u8; 256],
-    delays: &'a [u8; 256],
-    times: Timetable,
-    count: u16,
-    size: u16,
-) -> Found
-    requires { (f : Form) × Unknotted f edges from.now to.now delays.now times }
-    ensures { (f : Form) → Unknotted f edges from.now to.now delays.now times → Answers f count size result.times result.rotations }
+pub fn search_times(edges: Edges, times: Timetable, count: u16, size: u16) -> Turned
+    requires { (f : Form) × UnknottedBy f edges times }
+    ensures { (f : Form) → UnknottedBy f edges.entry times → Answers f count size result.times result.rotations }
 {
-    let mut now = turning::first_times(edges, from, to, delays, times);
+    let mut now = turning::first_times(edges, times);
     let mut best = now;
     let mut steps = size;
-    let mut rotations: u32 = 0;
-    while rotations < count as u32 {
+    for rotations in 0..count as u32 {
         steps = halve(steps, now.length);
         if steps == 0 {
-            break;
+            return found(best, rotations);
         }
-        let turned = turning::rotate_times(edges, from, to, delays, now, steps);
+        let turned = turning::rotate_times(edges, now, steps);
         let long = 512 < turned.length;
         if long {
-            break;
+            return found(best, rotations);
         }
         best = shorter_of(best, turned);
         now = turned;
-        rotations += 1;
     }
-    Found {
-        times: best,
-        rotations,
-    }
+    found(best, count as u32)
 }
 
 // Knot, then Size, else the shortest pair of a search.
-fn search_plan<'a>(
-    edges: u16,
-    from: &'a [u8; 256],
-    to: &'a [u8; 256],
-    delays: &'a [u8; 256],
-    times: Timetable,
-    count: u16,
-    size: u16,
-) -> Plan
-    requires { (f : Form) × Tabled f edges from.now to.now delays.now times }
-    ensures { (f : Form) → Tabled f edges from.now to.now delays.now times → Planned (search_asked size) (search_form count size) (search_turns count size) f result }
+fn search_plan(edges: Edges, times: Timetable, count: u16, size: u16) -> Result<Turned, Refused>
+    requires { (f : Form) × TabledBy f edges times }
+    ensures { (f : Form) → TabledBy f edges.entry times → Planned (search_asked size) (search_form count size) (search_turns count size) f (plan_in times result) }
 {
-    let knot = knots::knot_of(times.nodes, edges, from, to, delays);
-    if 0 < knot.count {
-        return Plan {
-            refusal: Refusal::Knot,
-            rotations: 0,
-            cycle: knot,
-            times,
-        };
-    }
+    knots::unknotted(times.nodes, edges)?;
     if size == 0 {
-        return Plan {
-            refusal: Refusal::Size(0),
-            rotations: 0,
-            cycle: knot,
-            times,
-        };
+        return Err(Refusal::Size(0).into());
     }
-    let found = search_times(edges, from, to, delays, times, count, size);
-    let best = found.times;
-    Plan {
-        refusal: Refusal::None,
-        rotations: found.rotations,
-        cycle: knot,
-        times: best,
-    }
+    Ok(search_times(edges, times, count, size))
 }
 
 // The record with the shortest pair of a search, into `out`, and the rotations completed; a refusal leaves `out` as it was.
-pub fn search(record: &[u8], count: u16, size: u16, out: &mut [u8]) -> Scheduled
-    ensures { RecordScheduled (search_asked size) (search_form count size) (search_turns count size) «record».now out.old out.new result }
+pub fn search(record: &[u8], count: u16, size: u16, out: &mut [u8]) -> Result<Rewritten, Refused>
+    ensures { RecordScheduled (search_asked size) (search_form count size) (search_turns count size) «record».now out.old out.new (scheduled_in result) }
 {
-    let read = reader::read(record);
-    let unread = read.refusal;
-    if !unread.is_fine() {
-        return Scheduled {
-            refusal: unread,
-            size: 0,
-            rotations: 0,
-            cycle: Cycle::none(),
-        };
-    }
-    let times = tables::times_of(read.form);
-    let plan = search_plan(
-        read.form.header.edges,
-        &read.form.from,
-        &read.form.to,
-        &read.form.delays,
-        times,
-        count,
-        size,
-    );
-    plans::write_plan(read.form, plan, out)
+    let form = reader::read(record)?;
+    let plan = search_plan(form.edges(), tables::times_of(form), count, size)?;
+    plans::write_plan(form, plan, out)
 }

@@ -1,11 +1,12 @@
 -- A system settled or refuted: the values of its rounds, and a losing cycle with the fewest edges where they do not settle.
 -- Assumes nothing.
-use Rattle.std.specs.Prelude.{◌≡◌, true, false, ◌≤◌, ◌<◌}
+use Rattle.std.specs.Prelude.{◌≡◌, true, false, List, ℕ, ◌≤◌, ◌<◌, Result}
 use Rattle.answer.specs.Outcome.{no_cycle, edges_of}
 use Rattle.answer.specs.Tally.{Tallies}
 use Rattle.system.specs.System.{System, FewestEdges}
 use Rattle.system.specs.Rounds.{settled_of}
-use Rattle.solve.specs.declared.Solution.{Solution}
+use Rattle.answer.specs.declared.Cycle.{Cycle}
+use Rattle.solve.specs.Outcome.{Solution, solution_in}
 
 pub record Solved (s : System) (r : Solution) : Type 0 where
   pub settled : r.settled ≡ (settled_of s).settled
@@ -15,3 +16,7 @@ pub record Solved (s : System) (r : Solution) : Type 0 where
   pub some : r.settled ≡ false → 0 < r.cycle.count
   pub few : r.cycle.count ≤ s.graph.nodes
   pub tallies : Tallies r.cycle
+
+-- the same of what comes back: the values, or a losing cycle
+abbrev pub SolvedBy : System → Result (List ℕ) Cycle → Type 0
+SolvedBy s r = Solved s (solution_in s r)

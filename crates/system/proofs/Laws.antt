@@ -15,7 +15,7 @@ use Rattle.lists.specs.Fold.{fold}
 use Rattle.lists.specs.Place.{set_view}
 use Rattle.system.specs.System.{System}
 use Rattle.system.specs.Rounds.{asks, raise, raise_all, raises, every_edge, round, settle_from}
-use Rattle.system.specs.declared.Settled.{Settled}
+use Rattle.system.specs.Outcome.{Settled}
 use Rattle.system.specs.Rising.{Holds, fails-asks, raise-asks, holds-asks, raise-calm, calm-same}
 
 -- what is left of the round, from y and the flag on, gives what the whole round gives from y₀
@@ -88,24 +88,22 @@ module _ (s : System) (y₀ : List ℕ) where
         subst (λ (m : ℕ). raise_all s y (span e m) ≡ round s y₀) none sofar.rest,
       )
 
-module _ (s : System) (left : ℕ) (y y' : List ℕ) (raised : Bool) (whole : Settled) (is_raised : raised ≡ raises s y (every_edge s)) (is_y : y' ≡ round s y)
-    (l : 0 < left) (rest : settle_from s left y ≡ whole) where
-  opened : settle_from s (suc (left - 1)) y ≡ whole
-  opened =
-      let more : left ≡ suc (left - 1) = omega arith in
-      subst (λ (m : ℕ). settle_from s m y ≡ whole) more rest
+module _ (s : System) (left : ℕ) (less : ℕ) (is_left : left ≡ suc less) (y y' : List ℕ) (raised : Bool) (whole : Settled) (is_raised : raised ≡ raises s y (every_edge s)) (is_y : y' ≡ round s y)
+    (rest : settle_from s left y ≡ whole) where
+  opened : settle_from s (suc less) y ≡ whole
+  opened = subst (λ (m : ℕ). settle_from s m y ≡ whole) is_left rest
 
   -- a round that raises leaves one round less
-  pub settle-on : raised ≡ true → settle_from s (left - 1) y' ≡ whole
+  pub settle-on : raised ≡ true → settle_from s less y' ≡ whole
   unfolding settle_from
-  settle-on q = rw is_y (sym (pick_true (raises s y (every_edge s)) (settle_from s (left - 1) (round s y)) _ (sym is_raised ∙ q)) ∙ opened)
+  settle-on q = rw is_y (sym (pick_true (raises s y (every_edge s)) (settle_from s less (round s y)) _ (sym is_raised ∙ q)) ∙ opened)
 
   -- one that does not is the last
   pub settle-done : raised ≡ false → ◌≡◌ {A = Settled} (record { settled = true; values = y' }) whole
   unfolding settle_from
   settle-done q =
       let calm : raises s y (every_edge s) ≡ false = sym is_raised ∙ q in
-      rw (is_y, calm-same s y calm) (sym (pick-false (raises s y (every_edge s)) (settle_from s (left - 1) (round s y)) _ calm) ∙ opened)
+      rw (is_y, calm-same s y calm) (sym (pick-false (raises s y (every_edge s)) (settle_from s less (round s y)) _ calm) ∙ opened)
 
 -- no round is left
 pub settle-out : (s : System) (left : ℕ) (y : List ℕ) (whole : Settled) → settle_from s left y ≡ whole → left ≤ 0 → ◌≡◌ {A = Settled} (record { settled = false; values = y }) whole

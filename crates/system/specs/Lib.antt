@@ -1,3 +1,4 @@
+pub mod Outcome
 pub mod Graph
 pub mod System
 pub mod Rounds
@@ -7,3 +8,4 @@ pub mod Laws
 pub mod Turned
 pub mod Same
 pub mod Shorter
+pub mod Lent

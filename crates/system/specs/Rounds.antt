@@ -5,7 +5,7 @@ use Rattle.lists.specs.Pick.{pick}
 use Rattle.lists.specs.Span.{span}
 use Rattle.lists.specs.Fold.{fold}
 use Rattle.system.specs.System.{System}
-use Rattle.system.specs.declared.Settled.{Settled}
+use Rattle.system.specs.Outcome.{Settled}
 
 -- edge e asks for more than its head has
 unfoldable pub asks : System → List ℕ → ℕ → Bool

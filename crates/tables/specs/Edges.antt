@@ -5,6 +5,7 @@ use Rattle.form.specs.declared.Form.{Form}
 use Rattle.form.specs.Places.{no_class, no_node}
 use Rattle.form.specs.Ranges.{WellFormed}
 use Rattle.legal.specs.Loop.{Loop, loop_of, graph_of}
+use Rattle.form.specs.declared.Edges.{Edges}
 
 -- tables of 1 to 64 nodes, and of at most 256 edges between them
 pub record Ends (nodes edges : ℕ) (from to : List ℕ) : Type 0 where
@@ -21,6 +22,13 @@ pub record Told (g : Loop) (nodes edges : ℕ) (from to delays : List ℕ) : Typ
   pub is_tail : (e : ℕ) → e < edges → g.graph.tail e ≡ get_or from e 0
   pub is_head : (e : ℕ) → e < edges → g.graph.head e ≡ get_or to e 0
   pub is_delay : (e : ℕ) → e < edges → g.delay e ≡ get_or delays e 0
+
+-- the same of tables that are lent together
+abbrev pub EndsIn : ℕ → Edges → Type 0
+EndsIn nodes e = Ends nodes e.count e.from.now e.to.now
+
+abbrev pub ToldBy : Loop → ℕ → Edges → Type 0
+ToldBy g nodes e = Told g nodes e.count e.from.now e.to.now e.delays.now
 
 -- a well-formed form's tables are such tables
 pub ends-form : (f : Form) → WellFormed f → Ends f.header.nodes f.header.edges f.from f.to

@@ -34,15 +34,12 @@ pub fn times_of(form: Form) -> Timetable
     let mut runs = [0u8; 64];
     let mut latency = [0u8; 64];
     let mut start = [0u16; 64];
-    let nodes = form.header.nodes as usize;
-    let mut v: usize = 0;
-    while v < nodes {
+    for v in 0..form.header.nodes as usize {
         let number = node[v].class;
         let row = class[number as usize];
         runs[v] = number;
         latency[v] = row.latency;
         start[v] = begins[v].0;
-        v += 1;
     }
     Timetable {
         classes: form.header.classes,
@@ -61,12 +58,5 @@ pub fn largest(table: &[u8; 64], count: u8) -> u8
     requires { count ≤ 64 }
     ensures { result ≡ most_of table.now count }
 {
-    let mut most: u8 = 0;
-    for v in 0..count {
-        let here = table[v as usize];
-        if most < here {
-            most = here;
-        }
-    }
-    most
+    table[..count as usize].iter().copied().fold(0, u8::max)
 }

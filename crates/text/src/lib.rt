@@ -1,36 +1,91 @@
-// Bytes, words and numbers as text, put into a lent buffer at a place. Where the buffer ends nothing is put, so
-// that the same functions measure a text, into no room at all, and write it.
+// Bytes, words and numbers as text, put on a page: a lent buffer, and the place in it that is next.
 #![tactic(auto)]
 
 ghost use Rattle.std.specs.Prelude.{◌≡◌, [], ◌∷◌, ◌++◌, ◌+◌, ◌≤◌, ◌<◌, length};
-ghost use Rattle.laid.specs.Laid.{Laid};
+ghost use Rattle.text.specs.Page.{Puts};
 ghost use Rattle.text.specs.Decimal.{decimal};
 ghost use Rattle.text.specs.Words.{retiming_text};
 
-// One byte, and the place past it.
-pub fn put_byte(out: &mut [u8], at: usize, byte: u8) -> usize
-    requires { at ≤ 2000000 }
-    ensures { (result ≡ at + 1) × Laid out.old at (byte ∷ []) out.new result }
-{
-    if out.len() <= at {
-        return at + 1;
-    }
-    out[at] = byte;
-    at + 1
+// Where the buffer ends nothing is put and the place goes on, so that the same functions measure a text, into no room
+// at all, and write it.
+#[derive(Drop)]
+pub struct Page<'a> {
+    pub out: &'a mut [u8],
+    pub at: usize,
 }
 
-// A word, and the place past it.
-pub fn put_word(out: &mut [u8], at: usize, word: &[u8]) -> usize
-    requires { at + length word.now ≤ 2000000 }
-    ensures { Laid out.old at word.now out.new result }
-{
-    let mut next = at;
-    let mut i: usize = 0;
-    while i < word.len() {
-        next = put_byte(out, next, word[i]);
-        i += 1;
+impl<'a> Page<'a> {
+    // The page of a buffer, from its front on.
+    pub fn new(out: &'a mut [u8]) -> Page<'a>
+        ensures front { result.at ≡ 0 }
+        ensures buffer { result.out.now ≡ out.old }
+        ensures same { result.out.ghost_name ≡ out.entry.ghost_name }
+    {
+        Page { out, at: 0 }
     }
-    next
+
+    // One byte.
+    pub fn byte(&mut self, byte: u8)
+        requires { self.old.at ≤ 2000000 }
+        ensures { Puts self.old self.new (byte ∷ []) }
+    {
+        let at = self.at;
+        self.at = at + 1;
+        if at < self.out.len() {
+            self.out[at] = byte;
+        }
+    }
+
+    // A word.
+    pub fn word(&mut self, word: &[u8])
+        requires { self.old.at + length word.now ≤ 2000000 }
+        ensures { Puts self.old self.new word.now }
+    {
+        for byte in word {
+            self.byte(*byte);
+        }
+    }
+
+    // A number below 1000 in decimal.
+    pub fn number(&mut self, number: u32)
+        requires { (self.old.at ≤ 1900000) × (number < 1000) }
+        ensures { (self.new.at ≤ self.old.at + 3) × Puts self.old self.new (decimal number) }
+    {
+        if number < 10 {
+            self.byte(digit(number));
+            return;
+        }
+        if number < 100 {
+            self.byte(digit(number / 10));
+            self.byte(digit(number % 10));
+            return;
+        }
+        self.byte(digit(number / 100));
+        self.byte(digit(number / 10 % 10));
+        self.byte(digit(number % 10));
+    }
+
+    // A word with a number after it.
+    pub fn field(&mut self, word: &[u8], number: u32)
+        requires { (self.old.at + length word.now ≤ 1900000) × (number < 1000) }
+        ensures { (self.new.at ≤ self.old.at + length word.now + 3) × Puts self.old self.new (word.now ++ decimal number) }
+    {
+        self.word(word);
+        self.number(number);
+    }
+
+    // "+r", nothing where r is 0.
+    pub fn retiming(&mut self, retiming: u8)
+        requires { self.old.at ≤ 1800000 }
+        ensures { (self.new.at ≤ self.old.at + 4) × Puts self.old self.new (retiming_text retiming) }
+    {
+        let none = retiming == 0;
+        if none {
+            return;
+        }
+        self.byte(b'+');
+        self.number(retiming as u32);
+    }
 }
 
 // The digit of a number below 10.
@@ -39,43 +94,4 @@ fn digit(number: u32) -> u8
     ensures { result ≡ 48 + number }
 {
     (48 + number) as u8
-}
-
-// A number below 1000 in decimal.
-pub fn put_number(out: &mut [u8], at: usize, number: u32) -> usize
-    requires { (at ≤ 1900000) × (number < 1000) }
-    ensures { (result ≤ at + 3) × Laid out.old at (decimal number) out.new result }
-{
-    if number < 10 {
-        return put_byte(out, at, digit(number));
-    }
-    if number < 100 {
-        let unit = put_byte(out, at, digit(number / 10));
-        return put_byte(out, unit, digit(number % 10));
-    }
-    let tens = put_byte(out, at, digit(number / 100));
-    let unit = put_byte(out, tens, digit(number / 10 % 10));
-    put_byte(out, unit, digit(number % 10))
-}
-
-// A word with a number after it.
-pub fn put_field(out: &mut [u8], at: usize, word: &[u8], number: u32) -> usize
-    requires { (at + length word.now ≤ 1900000) × (number < 1000) }
-    ensures { (result ≤ at + length word.now + 3) × Laid out.old at (word.now ++ decimal number) out.new result }
-{
-    let past = put_word(out, at, word);
-    put_number(out, past, number)
-}
-
-// "+r", nothing where r is 0.
-pub fn put_retiming(out: &mut [u8], at: usize, retiming: u8) -> usize
-    requires { at ≤ 1800000 }
-    ensures { (result ≤ at + 4) × Laid out.old at (retiming_text retiming) out.new result }
-{
-    let none = retiming == 0;
-    if none {
-        return at;
-    }
-    let past = put_byte(out, at, b'+');
-    put_number(out, past, retiming as u32)
 }

@@ -1,5 +1,7 @@
 -- The way of a rotation: the list rule from the starts lowered and the retimings raised, then the retiming that fits.
 -- Assumes nothing.
+use Rattle.std.specs.Prelude.{Result, Ok, Err}
+use Rattle.std.specs.Result.{result_unwrap_or}
 use mathlib.Core.Path.{◌≡◌, refl, sym, ap, subst, ◌∙◌}
 use mathlib.Core.Logic.{◌≢◌}
 use mathlib.Core.List.{List}
@@ -21,7 +23,8 @@ use Rattle.legal.specs.Fitted.{Settles}
 use Rattle.tables.specs.declared.Timetable.{Timetable}
 use Rattle.tables.specs.Times.{times_of}
 use Rattle.tables.specs.Lent.{Lent}
-use Rattle.fit.specs.declared.Fitting.{Fitting}
+use Rattle.answer.specs.declared.Cycle.{Cycle}
+use Rattle.fit.specs.Outcome.{Fitting, fitting_in}
 use Rattle.fit.specs.Retimed.{retimings, StartsFitted}
 use Rattle.list_rule.specs.Rule.{start_number, list_rule_of, length_of}
 use Rattle.list_rule.specs.Ends.{length-ends}
@@ -209,3 +212,8 @@ module _ (f : Form) (edges : ℕ) (from to delays : List ℕ) (t : Timetable) (z
             ∙ ap (times_with (times_of f) (rotated_starts f z) (rotated_length f z)) retiming-is
             ∙ sym (pair-times f w.nodes.1 (rotated_starts f z) (rotated-table f w k.legal z k.some k.below) (rotated_length f z) (retimings (loop_of f) turned_by))
             ∙ ap times_of (sym (pick-false (ltb 512 (rotated_length f z)) _ _ (le-ltb 512 (rotated_length f z) (omega (arith, length-is)))))
+
+-- starts that no retiming fits get retimings 0
+pub unfit-zero : (r : Result (List ℕ) Cycle) → result_unwrap_or r (replicate 64 0) ≡ (fitting_in r).retiming
+unfit-zero (Ok retiming) = refl
+unfit-zero (Err cycle) = refl

@@ -1,6 +1,6 @@
 -- The form with its first schedule: well-formed, held, written without refusal but Room, legal.
 -- Assumes nothing.
-use Rattle.std.specs.Prelude.{◌≡◌, refl, false, ◌⊎◌, ◌≢◌, ℕ, ◌≤◌, ◌<◌, ltb, replicate}
+use Rattle.std.specs.Prelude.{◌≡◌, refl, false, ◌⊎◌, ◌≢◌, ℕ, ◌≤◌, ◌<◌, ltb, replicate, None, Some}
 use Rattle.std.proofs.Common.{sym, ◌∙◌, arith}
 use Rattle.std.proofs.Math.Path.{ap, subst}
 use Rattle.std.proofs.Math.Bool.{true}
@@ -10,13 +10,12 @@ use Rattle.std.proofs.Math.ListN.{length, length-map}
 use Rattle.std.proofs.lemmas.List.{length-replicate}
 use Rattle.lists.specs.Pick.{pick, pick_ind, pick_true}
 use Rattle.lists.specs.Place.{zeros-at}
-use Rattle.answer.specs.Refused.{fine}
-use Rattle.answer.specs.declared.Refusal.{Refusal}
-use Rattle.answer.specs.declared.Refusal.TheVariants.{None, Room}
+use Rattle.answer.specs.Refused.{Verdict, fine}
+use Rattle.answer.specs.declared.Refusal.TheVariants.{Room}
 use Rattle.form.specs.declared.Form.{Form}
 use Rattle.form.specs.Ranges.{WellFormed}
 use Rattle.reader.specs.Reading.{read_form}
-use Rattle.reader.specs.declared.Record.{Record}
+use Rattle.reader.specs.Outcome.{Record}
 use Rattle.writer.specs.Layout.{layout}
 use Rattle.writer.specs.Writing.{refusal_of}
 use Rattle.record.specs.Held.{Held}
@@ -119,14 +118,14 @@ module _ (f : Form) (w : WellFormed f) (free : knotted (loop_of f) ≡ false) wh
   }
 
   -- writing it refuses nothing, or Room
-  pub first-written : Held f → (room : ℕ) → (refusal_of (first_form f) room ≡ None) ⊎ (refusal_of (first_form f) room ≡ Room 0)
+  pub first-written : Held f → (room : ℕ) → (refusal_of (first_form f) room ≡ None) ⊎ (refusal_of (first_form f) room ≡ Some (Room 0))
   unfolding refusal_of fine
   first-written h room =
       let g : Form = first_form f in
-      let P : Refusal → Type 0 = λ r. (r ≡ None) ⊎ (r ≡ Room 0) in
+      let P : Verdict → Type 0 = λ r. (r ≡ None) ⊎ (r ≡ Some (Room 0)) in
       let reads : fine (read_form (layout g)).refusal ≡ true = ap (λ (x : Record). fine x.refusal) (well-formed-written g (first-held h) first-well-formed) in
-      subst P (sym (pick_true (fine (read_form (layout g)).refusal) (pick (ltb room (length (layout g))) (Room 0) None) _ reads))
-      (pick_ind P (ltb room (length (layout g))) (Room 0) None (λ _. inr refl) (λ _. inl refl))
+      subst P (sym (pick_true (fine (read_form (layout g)).refusal) (pick (ltb room (length (layout g))) (Some (Room 0)) None) _ reads))
+      (pick_ind P (ltb room (length (layout g))) (Some (Room 0)) None (λ _. inr refl) (λ _. inl refl))
 
   -- its pair is the first pair
   first-pair-is : pair_of (first_form f) ≡ first_pair (loop_of f)

@@ -14,6 +14,7 @@ use Rattle.tables.specs.Times.{times_of, Timed, timed-form}
 use Rattle.tables.specs.Lent.{Lent}
 use Rattle.plans.specs.Tabled.{Tabled}
 use Rattle.list_rule.specs.Rule.{start_number, list_rule_of}
+use Rattle.form.specs.declared.Edges.{Edges}
 
 -- nodes of latency 1 to 8 that start by step 1023
 pub record EndSoon (nodes : ℕ) (latency start : List ℕ) : Type 0 where
@@ -40,6 +41,16 @@ pub record Turnable (f : Form) (edges : ℕ) (from to delays : List ℕ) (t : Ti
   pub legal : Legal (loop_of f) (pair_of f)
   pub some : 1 ≤ steps
   pub below : steps < f.header.length
+
+-- the same of edges that are lent together
+abbrev pub PlaceableBy : Loop → Pair → Edges → Timetable → Type 0
+PlaceableBy g p e t = Placeable g p e.count e.from.now e.to.now e.delays.now t
+
+abbrev pub UnknottedBy : Form → Edges → Timetable → Type 0
+UnknottedBy f e t = Unknotted f e.count e.from.now e.to.now e.delays.now t
+
+abbrev pub TurnableBy : Form → Edges → Timetable → ℕ → Type 0
+TurnableBy f e t steps = Turnable f e.count e.from.now e.to.now e.delays.now t steps
 
 -- a form that differs from a lent one in its pair alone is lent with it
 pub lent-next : (f g : Form) (edges : ℕ) (from to delays : List ℕ) (t u : Timetable) → Lent f edges from to delays t → loop_of g ≡ loop_of f → WellFormed g → u ≡ times_of g → Lent g edges from to delays u

@@ -1,6 +1,6 @@
 -- A form rotated, where that is not too long: well-formed, held, written without refusal but Room, legal.
 -- Assumes nothing.
-use Rattle.std.specs.Prelude.{◌≡◌, false, ◌⊎◌, ◌≢◌, ℕ, ◌+◌, ◌≤◌, ◌<◌, ltb}
+use Rattle.std.specs.Prelude.{◌≡◌, false, ◌⊎◌, ◌≢◌, ℕ, ◌+◌, ◌≤◌, ◌<◌, ltb, None, Some}
 use Rattle.std.proofs.Math.Path.{refl, ap, subst}
 use Rattle.std.proofs.Common.{sym, ◌∙◌}
 use Rattle.std.proofs.Math.Bool.{true}
@@ -11,14 +11,13 @@ use borrow.Author.Tests.{ltb-false}
 use Rattle.std.proofs.Math.ListN.{length, get_or, length-map}
 use Rattle.lists.specs.Pick.{pick, pick_ind, pick_true}
 use Rattle.lists.specs.Filled.{filled_at, filled-past, filled-length}
-use Rattle.answer.specs.Refused.{fine}
-use Rattle.answer.specs.declared.Refusal.{Refusal}
-use Rattle.answer.specs.declared.Refusal.TheVariants.{None, Room}
+use Rattle.answer.specs.Refused.{Verdict, fine}
+use Rattle.answer.specs.declared.Refusal.TheVariants.{Room}
 use Rattle.form.specs.declared.Form.{Form}
 use Rattle.form.specs.Places.{start_of, latency_of}
 use Rattle.form.specs.Ranges.{WellFormed}
 use Rattle.reader.specs.Reading.{read_form}
-use Rattle.reader.specs.declared.Record.{Record}
+use Rattle.reader.specs.Outcome.{Record}
 use Rattle.writer.specs.Layout.{layout}
 use Rattle.writer.specs.Writing.{refusal_of}
 use Rattle.record.specs.Held.{Held}
@@ -175,11 +174,11 @@ module _ (f : Form) (w : WellFormed f) (legal : Legal (loop_of f) (pair_of f)) (
     }
 
     -- writing it refuses nothing, or Room
-    pub rotated-written : Held f → (room : ℕ) → (refusal_of (rotated f z) room ≡ None) ⊎ (refusal_of (rotated f z) room ≡ Room 0)
+    pub rotated-written : Held f → (room : ℕ) → (refusal_of (rotated f z) room ≡ None) ⊎ (refusal_of (rotated f z) room ≡ Some (Room 0))
     unfolding refusal_of fine
     rotated-written h room =
         let g : Form = rotated f z in
-        let P : Refusal → Type 0 = λ r. (r ≡ None) ⊎ (r ≡ Room 0) in
+        let P : Verdict → Type 0 = λ r. (r ≡ None) ⊎ (r ≡ Some (Room 0)) in
         let reads : fine (read_form (layout g)).refusal ≡ true = ap (λ (x : Record). fine x.refusal) (well-formed-written g (rotated-held h) rotated-well-formed) in
-        subst P (sym (pick_true (fine (read_form (layout g)).refusal) (pick (ltb room (length (layout g))) (Room 0) None) _ reads))
-        (pick_ind P (ltb room (length (layout g))) (Room 0) None (λ _. inr refl) (λ _. inl refl))
+        subst P (sym (pick_true (fine (read_form (layout g)).refusal) (pick (ltb room (length (layout g))) (Some (Room 0)) None) _ reads))
+        (pick_ind P (ltb room (length (layout g))) (Some (Room 0)) None (λ _. inr refl) (λ _. inl refl))

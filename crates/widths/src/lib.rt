@@ -7,5 +7,5 @@ ghost use Rattle.std.specs.Prelude.{◌≡◌, ◌<◌};
 pub fn wide(x: u8) -> u16
     ensures { (result ≡ x) × (result < 256) }
 {
-    x as u16
+    u16::from(x)
 }

@@ -1,38 +1,31 @@
 -- The layout laid table by table, read back and copied.
 -- Assumes nothing.
+use Rattle.std.specs.Prelude.{Result, Ok, Err, None, Some}
+use Rattle.std.specs.Result.{is_ok}
 use mathlib.Core.Path.{◌≡◌, refl, ◌∙◌}
-use mathlib.Core.List.{List, [], ◌∷◌}
-use mathlib.Core.Bool.{true, false}
-use Prim.Native.Nat.{ℕ, ◌+◌, ◌≤◌, ◌<◌, min}
+use mathlib.Core.List.{List, ◌++◌}
+use mathlib.Core.Bool.{true}
+use Prim.Native.Nat.{ℕ, ◌≤◌, ◌<◌, min}
 use native.Mathlib.Nat.{zero-add}
-use native.Mathlib.Numerals.{add-one}
 use native.Mathlib.Omega.{arith}
-use lib.ListN.{length, get_or, take, set}
-use lib.Seq.{sets, take-suc, take_all, length-take-le}
+use lib.ListN.{length, take, drop}
+use lib.Seq.{sets-eq, length-take-le}
 use borrow.Author.Tests.{le-ltb, lt-ltb}
-use Rattle.lists.specs.Pick.{pick}
+use Rattle.lists.specs.Pick.{pick, both_ways}
 use Rattle.lists.specs.Stored.{sets-front}
-use Rattle.answer.specs.Refused.{fine}
-use Rattle.answer.specs.declared.Refusal.TheVariants.{None, Room}
+use Rattle.answer.specs.Refused.{fine, refused_fine}
+use Rattle.answer.specs.declared.Refusal.{Refusal}
+use Rattle.answer.specs.declared.Refusal.TheVariants.{Room}
 use Rattle.laid.specs.Laid.{Laid}
 use Rattle.laid.specs.Rows.{rows}
 use Rattle.laid.specs.Laws.{both, same-long}
 use Rattle.form.specs.declared.Form.{Form}
 use Rattle.form.specs.Places.{class_of, node_of, edge_of, start_of, retiming_of, scheduled}
-use Rattle.reader.specs.declared.Record.{Record}
+use Rattle.reader.specs.Outcome.{record_in}
 use Rattle.reader.specs.Reading.{read_form}
-use Rattle.writer.specs.declared.Written.{Written}
+use Rattle.writer.specs.Outcome.{written_in}
 use Rattle.writer.specs.Layout.{class_bytes, node_bytes, edge_bytes, start_bytes, header_bytes, class_rows, node_rows, edge_rows, start_rows, layout}
 use Rattle.writer.specs.Writing.{refusal_of, written, buffer_after}
-
--- one byte more of a copy
-pub byte_more : (l s m : List ℕ) (i : ℕ) → i < length s → Laid l 0 (take i s) m i → Laid l 0 (take (i + 1) s) (set m i (get_or s i 0)) (i + 1)
-byte_more l s m i h x =
-    rw (add-one, take-suc s i 0 h, ← add-one) (both l 0 (take i s) (get_or s i 0 ∷ []) m _ i (i + 1) x (record { is = refl; ends = refl }))
-
--- the last byte is copied
-pub copied : (l s m : List ℕ) (i : ℕ) → length s ≤ i → Laid l 0 (take i s) m i → Laid l 0 s m i
-copied l s m i h x = rw (take_all i s h) at x
 
 -- the header and the four tables are the whole layout
 pub whole : (f : Form) (l a b c d e : List ℕ) (h i j k n x y z w : ℕ)
@@ -60,22 +53,23 @@ module _ (l m : List ℕ) (f : Form) (size : ℕ) (x : Laid l 0 (layout f) m siz
   front = rw (x.is, size_is) (sets-front l (layout f) (omega (arith, size_is)))
 
   -- once the reader has read them back
-  module _ (r : Record) (back : r ≡ read_form (take size m)) where
-    pub refused : (out : List ℕ) → fine r.refusal ≡ false → (◌≡◌ {A = Written} (record { refusal = r.refusal; size = 0 }) (written f (length out))) × (out ≡ buffer_after f out)
-    unfolding written buffer_after refusal_of pick
-    refused out e = (rw (← front, ← back) (simp e), rw (← front, ← back) (simp e))
+  pub refused : (e : Refusal) → record_in (Err e) ≡ read_form (take size m) → (out : List ℕ) → (written_in (Err e) ≡ written f (length out)) × (out ≡ buffer_after f out)
+  unfolding written buffer_after refusal_of pick
+  refused e back out = (rw (← front, ← back, refused_fine e, refused_fine e), rw (← front, ← back, refused_fine e, refused_fine e))
 
-    pub accepted : fine r.refusal ≡ true → fine (read_form (layout f)).refusal ≡ true
-    accepted e = rw (← front, ← back) e
+  pub accepted : (r : Result Form Refusal) → record_in r ≡ read_form (take size m) → is_ok r ≡ true → fine (read_form (layout f)).refusal ≡ true
+  unfolding fine
+  accepted (Ok g) back ok = rw (← front, ← back)
+  accepted (Err e) back ok = both_ways ok refl
 
 -- ---- a form's bytes that the reader takes
 
 module _ (f : Form) (s out : List ℕ) (is : s ≡ layout f) (good : fine (read_form (layout f)).refusal ≡ true) where
-  pub cramped : length out < length s → (◌≡◌ {A = Written} (record { refusal = Room 0; size = 0 }) (written f (length out))) × (out ≡ buffer_after f out)
+  pub cramped : length out < length s → (written_in (Err (Room 0)) ≡ written f (length out)) × (out ≡ buffer_after f out)
   unfolding written buffer_after refusal_of pick fine
   cramped h = (rw (good, ← is, lt-ltb _ _ h), rw (good, ← is, lt-ltb _ _ h))
 
-  pub fits : (n : ℕ) → n ≡ length s → (last : List ℕ) → length s ≤ length out → last ≡ sets out 0 s
-      → (◌≡◌ {A = Written} (record { refusal = None; size = n }) (written f (length out))) × (last ≡ buffer_after f out)
+  pub fits : length s ≤ length out → (last : List ℕ) → last ≡ s ++ drop (length s) out
+      → (written_in (Ok (length s)) ≡ written f (length out)) × (last ≡ buffer_after f out)
   unfolding written buffer_after refusal_of pick fine
-  fits n is-n last h e = (rw (good, ← is, le-ltb _ _ h, is-n), rw (good, ← is, le-ltb _ _ h) e)
+  fits h last e = (rw (good, ← is, le-ltb _ _ h), rw (good, ← is, le-ltb _ _ h, sets-eq s out 0 (rw zero-add h), zero-add) e)

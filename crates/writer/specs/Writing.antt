@@ -1,20 +1,19 @@
 -- Writing a form: what the reader would refuse of its bytes, at the offset the field has there, then Room; else all of its bytes.
 -- Assumes nothing.
-use Rattle.std.specs.Prelude.{List, ℕ, ltb, length}
+use Rattle.std.specs.Prelude.{List, ℕ, ltb, length, None, Some}
 use Rattle.std.proofs.lemmas.List.Edits.{sets}
 use Rattle.lists.specs.Pick.{pick}
-use Rattle.answer.specs.Refused.{fine}
-use Rattle.answer.specs.declared.Refusal.{Refusal}
-use Rattle.answer.specs.declared.Refusal.TheVariants.{None, Room}
+use Rattle.answer.specs.Refused.{Verdict, fine}
+use Rattle.answer.specs.declared.Refusal.TheVariants.{Room}
 use Rattle.form.specs.declared.Form.{Form}
 use Rattle.reader.specs.Reading.{read_form}
-use Rattle.writer.specs.declared.Written.{Written}
+use Rattle.writer.specs.Outcome.{Written}
 use Rattle.writer.specs.Layout.{layout}
 
 -- the refusal of a form that is written into so much room
-unfoldable pub refusal_of : Form → ℕ → Refusal
+unfoldable pub refusal_of : Form → ℕ → Verdict
 refusal_of f room =
-    pick (fine (read_form (layout f)).refusal) (pick (ltb room (length (layout f))) (Room 0) None)
+    pick (fine (read_form (layout f)).refusal) (pick (ltb room (length (layout f))) (Some (Room 0)) None)
     (read_form (layout f)).refusal
 
 unfoldable pub written : Form → ℕ → Written

@@ -2,7 +2,6 @@
 -- Assumes nothing.
 use mathlib.Core.Path.{◌≡◌, refl}
 use native.Mathlib.Omega.{arith}
-use borrow.Author.Rules.{rules}
 use Rattle.lists.specs.Span.{span}
 use Rattle.answer.specs.Outcome.{cycle_edge, cycle_list}
 use Rattle.answer.proofs.Laws.{place-more}
@@ -10,15 +9,14 @@ use Rattle.answer.proofs.fill_cycle.Goals as goal
 
 pub loop-i-init : goal.loop-i-init
 unfolding span
-loop-i-init c = (search rules, refl)
+loop-i-init c = refl
 
 pub loop-i-preserved : goal.loop-i-preserved
 unfolding cycle_edge
-loop-i-preserved c =
-    (search rules, place-more _ _ _ _ _ _ c.loop-i.invariant.1 c.edge_within.ensures)
+loop-i-preserved c = place-more _ _ _ _ _ _ c.loop-i.invariant c.edge_within.ensures
 
 pub returns : goal.returns
 unfolding cycle_list
 returns c =
     let e : c.loop-i.i ≡ 64 = omega arith in
-    rw e at c.loop-i.invariant.1
+    rw e at c.loop-i.invariant

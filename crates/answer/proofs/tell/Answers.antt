@@ -1,12 +1,9 @@
--- `answer::tell` meets its contract.
+-- `answer::tell` meets its contract: nothing is refused, so the numbers are told.
 -- Assumes nothing.
+use Rattle.std.specs.Prelude.{None}
 use mathlib.Core.Path.{refl}
-use lib.ListN.{replicate}
-use Rattle.answer.specs.Outcome.{outcome_list}
-use Rattle.answer.proofs.Laws.{answer-whole}
+use Rattle.answer.proofs.Laws.{told-fine}
 use Rattle.answer.proofs.tell.Goals as goal
 
 pub returns : goal.returns
-unfolding outcome_list
-returns c =
-    (c.number-number.ensures, answer-whole (replicate 69 0) _ _ _ _ _ refl (rw c.number-number.ensures) c.fill_cycle.ensures)
+returns c = (refl, rw (told-fine c.args.numbers) (c.lay.ensures None refl))

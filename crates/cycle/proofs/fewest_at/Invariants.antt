@@ -1,14 +1,10 @@
 -- `cycle::fewest_at` meets its contract. The loop's invariant: the row is the one of k - 1 edges, and no closed walk of
 -- fewer than k edges through the node loses.
 -- Assumes nothing.
-use Prim.Native.Nat.{◌≤◌, ◌<◌, ◌-◌}
+use Prim.Native.Nat.{◌-◌}
 use Rattle.cycle.specs.Row.{Row}
-use Rattle.cycle.specs.Found.{wide, NoneBelow}
+use Rattle.cycle.specs.Found.{wide_in, NoneBelow}
 use Rattle.cycle.proofs.fewest_at.Given as goal
 
 abbrev pub invariant-loop-k : goal.invariant-loop-k
-invariant-loop-k l =
-    (0 < l.k) × (l.k ≤ l.limit) × Row (wide l.edges l.tails l.heads l.gains l.costs) l.node (l.k - 1) l.row × NoneBelow (wide l.edges l.tails l.heads l.gains l.costs) l.node l.k
-
-abbrev pub decreases-loop-k : goal.decreases-loop-k
-decreases-loop-k l = l.limit - l.k
+invariant-loop-k l = Row (wide_in l.system) l.node (l.k - 1) l.row × NoneBelow (wide_in l.system) l.node l.k

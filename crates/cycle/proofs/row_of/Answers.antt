@@ -7,17 +7,17 @@ use Rattle.cycle.specs.Row.{row-none, row_more}
 use Rattle.cycle.proofs.row_of.Goals as goal
 
 pub loop-k-init : goal.loop-k-init
-loop-k-init c = (omega arith, rw c.first_row-row.ensures (row-none _ 64 _ c.requires.1))
+loop-k-init c = (rw c.first_row-row.ensures (row-none _ 64 _ c.requires.1))
 
 pub next_row-row-requires : goal.next_row-row-requires
-next_row-row-requires c = (c.requires.0, λ v. omega (arith, c.loop-k.invariant.1.cap v))
+next_row-row-requires c = (c.requires.0, λ v. omega (arith, c.loop-k.invariant.cap v))
 
 pub loop-k-preserved : goal.loop-k-preserved
 unfolding system_of
 loop-k-preserved c =
-    (omega arith, row_more _ _ _ _ _ c.loop-k.invariant.1 c.next_row-row.ensures)
+    row_more _ _ _ _ _ c.loop-k.invariant c.next_row-row.ensures
 
 pub returns : goal.returns
 returns c =
-    let whole : c.loop-k.k ≡ c.args.count = omega arith in
-    rw whole at c.loop-k.invariant.1
+    let whole : c.loop-k._k ≡ c.args.count = omega arith in
+    rw whole at c.loop-k.invariant

@@ -1,20 +1,18 @@
 -- `cycle::shortest_cycle` meets its contract: what the start and the walk tell of 64 nodes holds of the graph's own number.
 -- Assumes nothing.
-use native.Mathlib.Omega.{arith}
 use Rattle.cycle.specs.Among.{tables, none_found, cycle-found}
 use Rattle.cycle.proofs.shortest_cycle.Goals as goal
 
-pub best_start-start-requires : goal.best_start-start-requires
-best_start-start-requires c = (tables _ _ _ _ _ _ c.requires.0 c.requires.1 c.requires.2, c.requires.0)
+pub best_start-requires : goal.best_start-requires
+best_start-requires c = (tables _ _ _ _ _ _ c.requires.0 c.requires.1 c.requires.2, c.requires.0)
 
-pub returns-then-nodes-start : goal.returns-then-nodes-start
-returns-then-nodes-start c =
-    none_found _ _ _ _ _ _ _ _ _ c.requires.2 c.best_start-start.ensures (omega (arith, c.if-nodes-start.true))
+pub returns-in_err-start-clause-cycle : goal.returns-in_err-start-clause-cycle
+returns-in_err-start-clause-cycle c = rw c.from_residual.ensures (none_found _ _ _ _ _ _ _ c.requires.2 c.in_err-start.ensures)
 
-pub walk_of-requires : goal.walk_of-requires
-walk_of-requires c =
-    (tables _ _ _ _ _ _ c.requires.0 c.requires.1 c.requires.2, omega (arith, c.best_start-start.ensures.inside c.if-nodes-start.false), omega arith, c.best_start-start.ensures.found c.if-nodes-start.false)
+pub walk_of-requires-clause-tables : goal.walk_of-requires-clause-tables
+walk_of-requires-clause-tables c = tables _ _ _ _ _ _ c.requires.0 c.requires.1 c.requires.2
 
-pub returns : goal.returns
-returns c =
-    cycle-found _ _ _ _ _ _ _ _ _ c.requires.2 c.best_start-start.ensures c.if-nodes-start.false _ c.walk_of.ensures
+pub returns-clause-cycle : goal.returns-clause-cycle
+returns-clause-cycle c =
+    let b = c.in_ok-start.ensures in
+    cycle-found _ _ _ _ _ _ _ c.requires.2 _ b.0 b.1.some b.1.within _ c.walk_of.ensures

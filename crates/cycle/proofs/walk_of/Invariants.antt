@@ -6,12 +6,9 @@ use Prim.Native.Nat.{◌≤◌, ◌-◌}
 use lib.ListN.{length}
 use Rattle.cycle.specs.Walked.{Walked}
 use Rattle.cycle.specs.Row.{roof}
-use Rattle.cycle.specs.Found.{wide}
+use Rattle.cycle.specs.Found.{wide_in}
 use Rattle.cycle.proofs.walk_of.Given as goal
 
 abbrev pub invariant-loop-i : goal.invariant-loop-i
 invariant-loop-i l =
-    (l.i ≤ l.count) × (length l.found ≡ 64) × (l.value ≤ roof) × Walked (wide l.edges l.tails l.heads l.gains l.costs) l.start (l.count - l.i) l.i l.found l.node l.value
-
-abbrev pub decreases-loop-i : goal.decreases-loop-i
-decreases-loop-i l = l.count - l.i
+    (length l.edges ≡ 64) × (l.value ≤ roof) × Walked (wide_in l.system) l.start.node (l.start.count - l.i) l.i l.edges l.node l.value

@@ -1,20 +1,14 @@
--- `drawing::put_classes` meets its contract: the loop's invariant is that the first lines are laid.
+-- `drawing::put_classes` meets its contract: the loop's invariant is that the first lines are put.
 -- Assumes nothing.
 use native.Mathlib.Omega.{arith}
-use Rattle.laid.specs.Rows.{rows}
-use Rattle.laid.specs.Laws.{nothing, row_more, rows_whole, same-long}
-use Rattle.drawing.proofs.Laws.{tests}
+use Rattle.text.specs.PageLaws.{no-row, row-put, rows-put}
 use Rattle.drawing.proofs.put_classes.Goals as goal
 
 pub loop-c-init : goal.loop-c-init
-unfolding rows
-loop-c-init c = (search tests, search tests, nothing _ _)
+loop-c-init c = (omega arith, no-row _ _)
 
 pub loop-c-preserved : goal.loop-c-preserved
-loop-c-preserved c = (search tests, search tests, row_more _ _ _ _ _ _ _ _ c.loop-c.invariant.2 c.put_class-next.ensures.1)
-
-pub shape_of-out : goal.shape_of-out
-shape_of-out c = same-long _ _ _ _ _ c.loop-c.invariant.2
+loop-c-preserved c = (omega (arith, c.loop-c.invariant.0, c.put_class.ensures.0), row-put _ _ _ _ _ c.loop-c.invariant.1 c.put_class.ensures.1)
 
 pub returns : goal.returns
-returns c = (search tests, rows_whole _ _ _ _ _ _ _ c.loop-c.invariant.2 (omega arith))
+returns c = (omega (arith, c.loop-c.invariant.0), rows-put _ _ _ _ _ c.loop-c.invariant.1 (omega arith))

@@ -1,13 +1,14 @@
 -- `drawing::put_starter` meets its contract: its place, or nothing.
 -- Assumes nothing.
+use native.Mathlib.Omega.{arith}
 use Rattle.drawing.specs.Table.{start_place}
-use Rattle.drawing.proofs.Laws.{tests, place_here, place-elsewhere}
+use Rattle.drawing.proofs.Laws.{place_here, place-elsewhere}
 use Rattle.drawing.proofs.put_starter.Goals as goal
 
-pub returns-then-starts_in : goal.returns-then-starts_in
+pub returns-then-not-starts_in : goal.returns-then-not-starts_in
 unfolding start_place
-returns-then-starts_in c = (search tests, place_here _ _ _ _ _ c.starts_in.ensures _ _ c.if-starts_in.true c.put_start.ensures.1)
+returns-then-not-starts_in c = (omega arith, place-elsewhere _ _ _ _ c.starts_in.ensures c.if-not-starts_in.true)
 
 pub returns : goal.returns
 unfolding start_place
-returns c = (search tests, place-elsewhere _ _ _ _ _ c.starts_in.ensures c.if-starts_in.false)
+returns c = (c.put_start.ensures.0, place_here _ _ _ _ c.starts_in.ensures _ c.if-not-starts_in.false c.put_start.ensures.1)

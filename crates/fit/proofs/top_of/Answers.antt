@@ -1,21 +1,16 @@
--- `fit::top_of` meets its contract: the largest of the values passed is kept.
+-- `fit::top_of` meets its contract: it folds over the first values.
 -- Assumes nothing.
-use mathlib.Core.Path.{◌≡◌}
+use Prim.Native.Nat.{max}
+use lib.ListN.{take}
 use native.Mathlib.Omega.{arith}
 use borrow.Author.Rules.{rules}
-use Rattle.fit.proofs.Laws.{top-none, top-more}
-use Rattle.fit.proofs.top_of.Goals.{else-highest-value, then-highest-value}
+use Rattle.std.proofs.lemmas.Iterator.{YieldsList-from_slice}
+use Rattle.std.proofs.lemmas.Iterator.Consumers.{YieldsList-from_copied, fold_from_yields_List}
+use Rattle.fit.proofs.Laws.{max-fold}
 use Rattle.fit.proofs.top_of.Goals as goal
-
-pub loop-v-init : goal.loop-v-init
-loop-v-init c = (search rules, top-none c.args.values.now)
-
-pub loop-v-preserved : goal.loop-v-preserved
-loop-v-preserved c =
-    let more = top-more c.args.values.now c.loop-v.v in
-    elim c.if-highest-value.branch [ then-highest-value w ↦ omega (arith, more) | else-highest-value w ↦ omega (arith, more) ]
 
 pub returns : goal.returns
 returns c =
-    let e : c.loop-v.v ≡ c.args.nodes = omega arith in
-    rw (← e) c.loop-v.invariant.1
+    let all = YieldsList-from_copied {s = c.copied.result} (YieldsList-from_slice (take c.args.nodes c.args.values.now) cc) in
+    let folded = fold_from_yields_List _ max _ _ c.fold.ensures.ran all (λ most here more same called. search rules) in
+    omega (arith, folded, max-fold 0 (take c.args.nodes c.args.values.now))

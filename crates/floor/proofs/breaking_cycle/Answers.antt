@@ -1,14 +1,15 @@
 -- `floor::breaking_cycle` meets its contract: the tables hold the system of the length.
 -- Assumes nothing.
+use mathlib.Core.Path.{◌≡◌}
+use native.Mathlib.Omega.{arith}
 use Rattle.floor.proofs.Laws.{edged-bounds, held-joined, held-breaks}
 use Rattle.floor.proofs.breaking_cycle.Goals as goal
 
-pub gains_of-gains-requires : goal.gains_of-gains-requires
-gains_of-gains-requires c = record { edges_bound = (c.requires.0.ends.few, c.requires.1); by_index = c.requires.0.short }
-
-pub solve-solution-requires : goal.solve-solution-requires
-solve-solution-requires c = record { le_nodes = edged-bounds _ _ _ _ _ c.requires.0; joined = held-joined _ _ _ _ _ c.requires.0 0 _ _ }
+pub solve-requires : goal.solve-requires
+solve-requires c =
+    let b = edged-bounds _ _ _ _ _ c.requires.0 in
+    record { le_nodes = omega arith; joined = held-joined _ c.args.edges c.requires.0 _ _ _ c.paced.ensures.2 }
 
 pub returns : goal.returns
-returns c g told costed =
-    held-breaks _ _ _ _ _ c.requires.0 c.args.length _ _ c.gains_of-gains.ensures g told costed _ c.solve-solution.ensures
+returns c g told costed short =
+    rw c.err.ensures.value (held-breaks _ c.args.edges c.requires.0 _ _ _ c.paced.ensures.2 c.args.length c.gains_of-gains.ensures g told costed _ c.solve.ensures short)

@@ -10,7 +10,7 @@ use Rattle.floor.proofs.busiest_class.Goals.{else-part-here, then-part-here}
 use Rattle.floor.proofs.busiest_class.Goals as goal
 
 pub loop-c-init : goal.loop-c-init
-loop-c-init c = (search rules, λ g p timed. busy-none g, omega arith)
+loop-c-init c = (λ g p timed. busy-none g, omega arith)
 
 pub units_part-here-requires : goal.units_part-here-requires
 units_part-here-requires c =
@@ -18,10 +18,9 @@ units_part-here-requires c =
 
 pub loop-c-preserved : goal.loop-c-preserved
 loop-c-preserved c = (
-  search rules,
   λ g p timed.
       let is = part-is g p c.args.times timed c.loop-c.c _ _ c.nodes_on.ensures.0 c.units_part-here.ensures.0 in
-      elim c.if-part-here.branch [ then-part-here w ↦ rw (w.part-is, w.number-is) (busy-here g c.loop-c.c _ _ _ is (c.loop-c.invariant.1 g p timed) (omega (arith, w.if-part-here.true))) | else-part-here w ↦ rw (w.part-is, w.number-is) (busy-past g c.loop-c.c _ _ _ is (c.loop-c.invariant.1 g p timed) (omega (arith, w.if-part-here.false))) ],
+      elim c.if-part-here.branch [ then-part-here w ↦ rw (w.part-is, w.number-is) (busy-here g c.loop-c.c _ _ _ is (c.loop-c.invariant.0 g p timed) (omega (arith, w.if-part-here.true))) | else-part-here w ↦ rw (w.part-is, w.number-is) (busy-past g c.loop-c.c _ _ _ is (c.loop-c.invariant.0 g p timed) (omega (arith, w.if-part-here.false))) ],
   elim c.if-part-here.branch [ then-part-here w ↦ omega (arith, w.part-is, c.units_part-here.ensures.1) | else-part-here w ↦ omega (arith, w.part-is) ],
 )
 
@@ -29,6 +28,6 @@ pub returns : goal.returns
 returns c = (
   λ g p timed.
       let e : c.loop-c.c ≡ g.classes = omega (arith, timed.all_classes) in
-      subst (λ (n : ℕ). Busy g n c.loop-c.part c.loop-c.number) e (c.loop-c.invariant.1 g p timed),
-  c.loop-c.invariant.2,
+      subst (λ (n : ℕ). Busy g n c.loop-c.part c.loop-c.number) e (c.loop-c.invariant.0 g p timed),
+  c.loop-c.invariant.1,
 )

@@ -7,4 +7,4 @@ use Rattle.floor.specs.Tables.{Busy}
 use Rattle.floor.proofs.busiest_class.Given as goal
 
 abbrev pub invariant-loop-c : goal.invariant-loop-c
-invariant-loop-c l = (l.c ≤ l.times.classes) × ((g : Loop) (p : Pair) → Timed g p l.times → Busy g l.c l.part l.number) × (l.part ≤ 512)
+invariant-loop-c l = ((g : Loop) (p : Pair) → Timed g p l.times → Busy g l.c l.part l.number) × (l.part ≤ 512)

@@ -5,9 +5,6 @@ use native.Mathlib.Nat.{mul-one}
 use Rattle.floor.proofs.Laws.{product, hold-plain, hold-piped}
 use Rattle.floor.proofs.busy_steps.Goals as goal
 
-pub overflow_mul-result : goal.overflow_mul-result
-overflow_mul-result c = omega (arith, product c.wide.result c.wide-then-plain.result 64 8 (omega (arith, c.wide.ensures.0)) (omega (arith, c.wide-then-plain.ensures.0)))
-
 pub returns-then-plain : goal.returns-then-plain
 returns-then-plain c =
     let p = product c.wide.result c.wide-then-plain.result 64 8 (omega (arith, c.wide.ensures.0)) (omega (arith, c.wide-then-plain.ensures.0)) in

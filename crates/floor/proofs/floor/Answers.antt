@@ -1,26 +1,32 @@
 -- `floor::floor` meets its contract: the reader's refusal, else the floor of the form.
 -- Assumes nothing.
-use mathlib.Core.Path.{sym, ◌∙◌}
 use native.Mathlib.Omega.{arith}
-use Rattle.record.specs.Read.{read-good}
-use Rattle.tables.specs.Lent.{lent-form}
-use Rattle.floor.proofs.Answers.{record-refused, record-floored}
+use Rattle.answer.specs.Refused.{none_fine}
+use Rattle.std.proofs.lemmas.Result.{err_from_is_err_and}
+use Rattle.form.specs.Ranges.{WellFormed}
+use Rattle.record.specs.ReadFirst.{well-read}
+use Rattle.tables.specs.Lent.{LentBy}
+use Rattle.floor.proofs.Answers.{lent-edges, record-refused, record-floored}
+use Rattle.floor.proofs.floor.Goals.{In_ok-form, After-times_of}
 use Rattle.floor.proofs.floor.Goals as goal
 
-pub returns-then-not-is_fine : goal.returns-then-not-is_fine
-returns-then-not-is_fine c =
-    record-refused _ _ c.read-read.ensures _ (sym c.is_fine.ensures ∙ c.if-not-is_fine.true)
-    (c.alone.ensures.0, omega (arith, c.alone.ensures.1), c.alone.ensures.2, c.alone.ensures.3)
+pub returns-in_err-form : goal.returns-in_err-form
+returns-in_err-form c =
+    let p = err_from_is_err_and c.from_residual.result c.from_residual.ensures.1 in
+    rw (p.1, p.2) (record-refused _ _ c.in_err-form.ensures)
 
-pub times_of-times-requires : goal.times_of-times-requires
-times_of-times-requires c =
-    read-good c.args.«record».now _ c.read-read.ensures (λ i. omega (arith, c.type_inv.«record» i)) (sym c.is_fine.ensures ∙ c.if-not-is_fine.false)
+-- a form that was read is in its ranges, and lent
+good : (p : In_ok-form) → WellFormed p.in_ok-form.form
+good p = (well-read p.args.«record».now _ p.in_ok-form.ensures (λ i. omega (arith, p.type_inv.«record» i)) none_fine).good
+
+lent : (p : After-times_of) → WellFormed p.in_ok-form.form → LentBy p.in_ok-form.form p.edges.result p.times_of.result
+lent p w = lent-edges _ _ _ _ _ _ p.edges.ensures.count p.edges.ensures.tables w p.times_of.ensures
+
+pub times_of-requires : goal.times_of-requires
+times_of-requires c = good (goal.at.times_of-requires c).In_ok-form
 
 pub floor_tables-requires : goal.floor_tables-requires
-floor_tables-requires c =
-    (c.read-read.result.form, lent-form _ _ (read-good c.args.«record».now _ c.read-read.ensures (λ i. omega (arith, c.type_inv.«record» i)) (sym c.is_fine.ensures ∙ c.if-not-is_fine.false)) c.times_of-times.ensures)
+floor_tables-requires c = let at = goal.at.floor_tables-requires c in (c.in_ok-form.form, lent at.After-times_of (good at.In_ok-form))
 
 pub returns : goal.returns
-returns c =
-    record-floored _ _ c.read-read.ensures _ (sym c.is_fine.ensures ∙ c.if-not-is_fine.false)
-    (c.floor_tables.ensures _ (lent-form _ _ (read-good c.args.«record».now _ c.read-read.ensures (λ i. omega (arith, c.type_inv.«record» i)) (sym c.is_fine.ensures ∙ c.if-not-is_fine.false)) c.times_of-times.ensures))
+returns c = let at = goal.at.returns c in record-floored _ _ _ c.in_ok-form.ensures (c.floor_tables.ensures _ (lent at.After-times_of (good at.In_ok-form)))

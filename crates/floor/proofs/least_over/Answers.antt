@@ -13,10 +13,6 @@ use Rattle.floor.proofs.least_over.Goals as goal
 pub loop-short-init : goal.loop-short-init
 loop-short-init c = (search rules, omega arith, omega arith, λ g paced q. (enough-512 g paced.sound (unknotted-free g paced.free), λ l one z. short-less g paced.sound l _ z q))
 
-pub loop-short-preserved-then-is_enough : goal.loop-short-preserved-then-is_enough
-loop-short-preserved-then-is_enough c =
-    (omega arith, omega arith, omega arith, λ g paced q. (sym (c.is_enough.ensures g paced.told paced.costed) ∙ c.if-is_enough.true, (c.loop-short.invariant.3 g paced q).1))
-
 pub loop-short-preserved : goal.loop-short-preserved
 loop-short-preserved c = (
   omega arith,

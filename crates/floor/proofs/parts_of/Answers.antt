@@ -8,7 +8,7 @@ use Rattle.floor.proofs.parts_of.Goals as goal
 
 pub cycle_over-requires : goal.cycle_over-requires
 cycle_over-requires c =
-    (c.requires.0, omega (arith, c.larger-least.ensures, c.busiest_class-busiest.ensures.1, c.wide-latency.ensures.1))
+    (c.requires.0, omega (arith, c.max-least.ensures, c.busiest_class-busiest.ensures.1, c.wide-latency.ensures.1))
 
 pub returns : goal.returns
 returns c g p paced timed =
@@ -17,5 +17,5 @@ returns c g p paced timed =
     record {
       latency_is = is-latency;
       units-is = units;
-      floor-is = floor-of g _ _ _ _ is-latency units.most c.larger-least.ensures (c.cycle_over.ensures g paced (omega (arith, c.larger-least.ensures, is-latency, latency-one g paced.sound)));
+      floor-is = floor-of g _ _ _ _ is-latency units.most c.max-least.ensures (c.cycle_over.ensures g paced (omega (arith, c.max-least.ensures, is-latency, latency-one g paced.sound)));
     }

@@ -8,31 +8,15 @@ use Rattle.issue.proofs.late_edge.Goals as goal
 pub loop-e-init : goal.loop-e-init
 loop-e-init c = (c.requires.1, λ g p starts k v o t f is. seeking-first g p starts k _ _ v o _ _ f)
 
-pub bounds-from-i : goal.bounds-from-i
-bounds-from-i c = omega (arith, c.requires.0.few)
-
-pub bounds-delays-i : goal.bounds-delays-i
-bounds-delays-i c = omega (arith, c.requires.0.few)
-
-pub is_late-requires : goal.is_late-requires
-is_late-requires c =
-    (c.requires.0.tail-in c.loop-e.e (omega arith), c.requires.2)
-
 pub returns-then-is_late : goal.returns-then-is_late
-returns-then-is_late c =
-    record {
-      is_first = λ g p starts k v o t f is.
-          let w = c.loop-e.invariant.1 g p starts k v o t f is in
-          seeking-here g p starts k _ _ v c.loop-e.e (omega (arith, t.all_edges)) (late-missing g p starts k _ _ v _ _ _ _ _ c.loop-e.e t is c.loop-e-test.true w ∙ sym c.is_late.ensures ∙ c.if-is_late.true) w;
-      within = c.loop-e.invariant.0;
-    }
-
-pub bounds-next-i : goal.bounds-next-i
-bounds-next-i c = omega (arith, c.requires.0.few)
-
-pub loop-e-smaller : goal.loop-e-smaller
-loop-e-smaller c =
-    omega (arith, c.requires.0.leads-on c.loop-e.e (omega arith))
+returns-then-is_late c = (
+  c.loop-e-test.true,
+  record {
+    is_first = λ g p starts k v o t f is.
+        let w = c.loop-e.invariant.1 g p starts k v o t f is in
+        seeking-here g p starts k _ _ v c.loop-e.e (omega (arith, t.all_edges)) (late-missing g p starts k _ _ v _ _ _ _ _ c.loop-e.e t is c.loop-e-test.true w ∙ sym c.is_late.ensures ∙ c.if-is_late.true) w;
+  },
+)
 
 pub loop-e-preserved : goal.loop-e-preserved
 loop-e-preserved c = (
@@ -43,8 +27,6 @@ loop-e-preserved c = (
 )
 
 pub returns : goal.returns
-returns c =
-    record {
-      is_first = λ g p starts k v o t f is. omega (arith, c.loop-e.invariant.0, seeking-end g p starts k c.args.finish.now c.args.step.0 v c.loop-e.e (omega (arith, t.all_edges)) (c.loop-e.invariant.1 g p starts k v o t f is));
-      within = omega arith;
-    }
+returns c = record {
+  is_first = λ g p starts k v o t f is. omega (arith, c.loop-e.invariant.0, seeking-end g p starts k c.args.finish.now c.args.step.0 v c.loop-e.e (omega (arith, t.all_edges)) (c.loop-e.invariant.1 g p starts k v o t f is));
+}

@@ -26,7 +26,7 @@ fill_busy-requires c =
     record { busy_len = (c.idle-busy.ensures.0, c.idle-busy.ensures.1); nodes_bound = (c.requires.0.most, λ v l. (on-board _ c.requires.1 c.requires.2 v l, omega (arith, c.requires.2.in_body v l))) }
 
 -- the order, from the weights of every loop that the tables tell
-ordered : (c : After-fill_busy) → Ordered c.args.edges c.args.from.now c.args.to.now c.args.delays.now c.args.times c.order_of-order.result
+ordered : (c : After-fill_busy) → Ordered c.args.edges.count c.args.edges.from.now c.args.edges.to.now c.args.edges.delays.now c.args.times c.order_of-order.result
 ordered c =
     ordered_of _ _ _ _ _ _ _ (λ g pair told timed. c.weights-weight.ensures g pair.retiming told (λ v l. timed.retimed v)) c.order_of-order.ensures.0 c.order_of-order.ensures.1
 

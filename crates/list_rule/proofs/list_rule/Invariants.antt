@@ -11,8 +11,8 @@ invariant-loop-q l =
 
 abbrev pub invariant-nodes : goal.invariant-nodes
 invariant-nodes l =
-    (l.i ≤ l.times.nodes) × Trying l.edges l.from l.to l.delays l.times l.order l.initial.start l.p l.i l.start l.busy
+    (l.i ≤ l.times.nodes) × Trying l.edges.count l.edges.from.now l.edges.to.now l.edges.delays.now l.times l.order l.initial.start l.p l.i l.start l.busy
 
 abbrev pub invariant-steps : goal.invariant-steps
 invariant-steps l =
-    (1 ≤ l.p) × (l.p ≤ 1024) × Filling l.edges l.from l.to l.delays l.times l.p l.start l.busy
+    (1 ≤ l.p) × (l.p ≤ 1024) × Filling l.edges.count l.edges.from.now l.edges.to.now l.edges.delays.now l.times l.p l.start l.busy

@@ -12,10 +12,10 @@ pub loop-e-init : goal.loop-e-init
 loop-e-init c = (search rules, waits-none _ _ _ _ _ _ _)
 
 -- an edge's nodes are places of the tables
-tail-in : (c : In-loop-e) → get_or c.args.from.now c.loop-e.e 0 < 64
+tail-in : (c : In-loop-e) → get_or c.args.edges.from.now c.loop-e.e 0 < 64
 tail-in c = c.requires.tail-in _ c.loop-e-test.true
 
-head_in : (c : In-loop-e) → get_or c.args.to.now c.loop-e.e 0 < 64
+head_in : (c : In-loop-e) → get_or c.args.edges.to.now c.loop-e.e 0 < 64
 head_in c = c.requires.head_in _ c.loop-e-test.true
 
 pub overflow_cast-tail : goal.overflow_cast-tail

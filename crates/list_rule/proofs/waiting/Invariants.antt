@@ -6,4 +6,4 @@ use Rattle.list_rule.proofs.waiting.Given as goal
 
 abbrev pub invariant-loop-e : goal.invariant-loop-e
 invariant-loop-e l =
-    (l.e ≤ l.edges) × WaitsTabled l.from l.to l.delays l.retiming l.latency l.start l.step l.e l.waits
+    (l.e ≤ l.edges.count) × WaitsTabled l.edges.from.now l.edges.to.now l.edges.delays.now l.retiming l.latency l.start l.step l.e l.waits

@@ -1,21 +1,14 @@
 -- `listing::put_nodes` meets its contract: the loop's invariant is that the first nodes of the step are laid.
 -- Assumes nothing.
 use native.Mathlib.Omega.{arith}
-use Rattle.laid.specs.Rows.{rows}
-use Rattle.laid.specs.Laws.{nothing, same-long}
-use Rattle.listing.proofs.Laws.{tests, node-more, nodes-whole}
+use Rattle.listing.proofs.Laws.{nodes-none, node-more, nodes-whole}
 use Rattle.listing.proofs.put_nodes.Goals as goal
 
 pub loop-i-init : goal.loop-i-init
-unfolding rows
-loop-i-init c = (search tests, search tests, nothing _ _)
+loop-i-init c = (omega arith, nodes-none _ _ _ _)
 
 pub loop-i-preserved : goal.loop-i-preserved
-loop-i-preserved c =
-    (search tests, search tests, node-more _ _ _ _ _ _ _ _ _ _ c.loop-i.invariant.2 c.put_node-next.ensures.1)
-
-pub shape_of-out : goal.shape_of-out
-shape_of-out c = same-long _ _ _ _ _ c.loop-i.invariant.2
+loop-i-preserved c = (omega (arith, c.loop-i.invariant.0, c.put_node.ensures.0), node-more _ _ _ _ _ _ _ c.loop-i.invariant.1 c.put_node.ensures.1)
 
 pub returns : goal.returns
-returns c = (search tests, nodes-whole _ _ _ _ _ _ _ _ _ c.loop-i.invariant.2 (omega arith))
+returns c = (omega (arith, c.loop-i.invariant.0), nodes-whole _ _ _ _ _ _ _ c.loop-i.invariant.1 (omega arith))

@@ -1,45 +1,57 @@
 -- `listing::view_of` meets its contract: the reader's refusal, the judge's, else a form whose numbers are small, with its loop's floor.
 -- Assumes nothing.
-use mathlib.Core.Path.{sym, ◌∙◌}
+use Rattle.std.proofs.lemmas.Result.{err_from_is_err_and}
+use mathlib.Core.Path.{refl}
 use native.Mathlib.Omega.{arith}
+use Rattle.answer.specs.Refused.{fine}
+use Rattle.form.specs.Ranges.{WellFormed}
 use Rattle.record.specs.Read.{read-good}
-use Rattle.tables.specs.Lent.{lent-form}
-use Rattle.listing.proofs.Accepted.{read-viewed, judged-viewed, form-viewed}
+use Rattle.tables.specs.Lent.{LentBy, lent-form}
+use Rattle.listing.proofs.Accepted.{read-viewed, judged-viewed, floor-viewed, form-viewed}
+use Rattle.listing.proofs.view_of.Goals.{In_ok-form, After-times_of-times}
 use Rattle.listing.proofs.view_of.Goals as goal
 
-pub returns-then-not-is_fine : goal.returns-then-not-is_fine
-returns-then-not-is_fine c =
-    read-viewed _ _ c.read-read.ensures (sym c.is_fine.ensures ∙ c.if-not-is_fine.true) _ c.refused.ensures
+pub returns-in_err-form : goal.returns-in_err-form
+returns-in_err-form c =
+    let p = err_from_is_err_and c.from_residual.result c.from_residual.ensures.1 in
+    rw (p.1, p.2) (read-viewed _ _ c.in_err-form.ensures)
+
+-- a form that was read is in its ranges, and lent
+good : (p : In_ok-form) → WellFormed p.in_ok-form.form
+unfolding fine
+good p = read-good p.args.«record».now _ p.in_ok-form.ensures (λ i. omega (arith, p.type_inv.«record» i)) refl
+
+lent : (p : After-times_of-times) → WellFormed p.in_ok-form.form → LentBy p.in_ok-form.form p.edges-edges.result p.times_of-times.result
+lent p w =
+    let e = p.edges-edges.ensures in
+    rw (e.count, e.tables.0, e.tables.1, e.tables.2) (lent-form _ _ w p.times_of-times.ensures)
 
 pub times_of-times-requires : goal.times_of-times-requires
-times_of-times-requires c =
-    let fine = sym c.is_fine.ensures ∙ c.if-not-is_fine.false in
-    read-good c.args.«record».now _ c.read-read.ensures (λ i. omega (arith, c.type_inv.«record» i)) fine
+times_of-times-requires c = good (goal.at.times_of-times-requires c).In_ok-form
 
-pub judge_tables-judged-requires : goal.judge_tables-judged-requires
-judge_tables-judged-requires c =
-    let fine = sym c.is_fine.ensures ∙ c.if-not-is_fine.false in
-    let w = read-good c.args.«record».now _ c.read-read.ensures (λ i. omega (arith, c.type_inv.«record» i)) fine in
-    let lent = lent-form _ _ w c.times_of-times.ensures in
-    (c.read-read.result.form, lent)
+pub judge_tables-requires : goal.judge_tables-requires
+judge_tables-requires c = let at = goal.at.judge_tables-requires c in (c.in_ok-form.form, lent at.After-times_of-times (good at.In_ok-form))
 
-pub returns-then-not-is_fine-2 : goal.returns-then-not-is_fine-2
-returns-then-not-is_fine-2 c =
-    let fine = sym c.is_fine.ensures ∙ c.if-not-is_fine.false in
-    let w = read-good c.args.«record».now _ c.read-read.ensures (λ i. omega (arith, c.type_inv.«record» i)) fine in
-    let lent = lent-form _ _ w c.times_of-times.ensures in
-    judged-viewed _ _ c.read-read.ensures fine _ (c.judge_tables-judged.ensures _ lent) (sym c.is_fine-2.ensures ∙ c.if-not-is_fine-2.true) _ c.refused-then-not-is_fine-2.ensures
+pub returns-in_err-judge_tables : goal.returns-in_err-judge_tables
+returns-in_err-judge_tables c =
+    let at = goal.at.returns-in_err-judge_tables c in
+    let p = err_from_is_err_and c.from_residual-in_err-judge_tables.result c.from_residual-in_err-judge_tables.ensures.1 in
+    rw (p.1, p.2) (judged-viewed _ _ c.in_ok-form.ensures _ (c.in_err-judge_tables.ensures _ (lent at.After-times_of-times (good at.In_ok-form))).refusal)
 
-pub floor_tables-floored-requires : goal.floor_tables-floored-requires
-floor_tables-floored-requires c =
-    let fine = sym c.is_fine.ensures ∙ c.if-not-is_fine.false in
-    let w = read-good c.args.«record».now _ c.read-read.ensures (λ i. omega (arith, c.type_inv.«record» i)) fine in
-    let lent = lent-form _ _ w c.times_of-times.ensures in
-    (c.read-read.result.form, lent)
+pub floor_tables-requires : goal.floor_tables-requires
+floor_tables-requires c = let at = goal.at.floor_tables-requires c in (c.in_ok-form.form, lent at.After-times_of-times (good at.In_ok-form))
+
+pub returns-in_err-attained : goal.returns-in_err-attained
+returns-in_err-attained c =
+    let at = goal.at.returns-in_err-attained c in
+    let w = good at.In_ok-form in
+    let l = lent at.After-times_of-times w in
+    let p = err_from_is_err_and c.from_residual-in_err-attained.result c.from_residual-in_err-attained.ensures.1 in
+    rw (p.1, p.2) (floor-viewed _ _ c.in_ok-form.ensures w (c.in_ok-judge_tables.ensures _ l).refusal _ (c.in_err-attained.ensures _ l))
 
 pub returns : goal.returns
 returns c =
-    let fine = sym c.is_fine.ensures ∙ c.if-not-is_fine.false in
-    let w = read-good c.args.«record».now _ c.read-read.ensures (λ i. omega (arith, c.type_inv.«record» i)) fine in
-    let lent = lent-form _ _ w c.times_of-times.ensures in
-    form-viewed c.args.«record».now _ c.read-read.ensures fine _ (c.judge_tables-judged.ensures _ lent) (λ i. omega (arith, c.type_inv.«record» i)) (sym c.is_fine-2.ensures ∙ c.if-not-is_fine-2.false) _ (c.floor_tables-floored.ensures _ lent)
+    let at = goal.at.returns c in
+    let w = good at.In_ok-form in
+    let l = lent at.After-times_of-times w in
+    form-viewed _ _ c.in_ok-form.ensures w (c.in_ok-judge_tables.ensures _ l).refusal _ (c.in_ok-attained.ensures _ l)

@@ -1,5 +1,6 @@
 -- `operands::opening_of` meets its contract: one line for each operation.
 -- Assumes nothing.
+use Rattle.std.specs.Prelude.{Some}
 use mathlib.Core.Path.{◌≡◌, sym, ◌∙◌, ap}
 use native.Mathlib.Omega.{arith}
 use Rattle.machine.specs.Values.{word}
@@ -10,7 +11,7 @@ pub returns-in-Add : goal.returns-in-Add
 unfolding opening
 returns-in-Add c =
     let small : c.in-Add.constant ≡ word c.in-Add.constant = omega arith in
-    small ∙ sym (ap opening c.in-Add.is)
+    ap Some small ∙ sym (ap opening c.in-Add.is)
 
 pub returns-in-Sub : goal.returns-in-Sub
 unfolding opening
@@ -20,4 +21,4 @@ pub returns-in-Mul : goal.returns-in-Mul
 unfolding opening
 returns-in-Mul c =
     let small : c.in-Mul.constant ≡ word c.in-Mul.constant = omega arith in
-    small ∙ sym (ap opening c.in-Mul.is)
+    ap Some small ∙ sym (ap opening c.in-Mul.is)

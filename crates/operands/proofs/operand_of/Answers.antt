@@ -13,22 +13,6 @@ unfolding handed pick
 returns-then-i-back c =
     rw (lt-ltb c.args.iteration.0 c.args.delays (omega arith))
 
-pub overflow_mul-result-2 : goal.overflow_mul-result-2
-overflow_mul-result-2 c =
-    omega (arith, back-small c.args.iteration.0 c.args.delays c.args.nodes c.args.from (omega arith) (omega arith) (omega arith))
-
-pub overflow_add-result-2 : goal.overflow_add-result-2
-overflow_add-result-2 c =
-    omega (arith, back-small c.args.iteration.0 c.args.delays c.args.nodes c.args.from (omega arith) (omega arith) (omega arith))
-
-pub offset_bounds-values-i : goal.offset_bounds-values-i
-offset_bounds-values-i c =
-    omega (arith, back-small c.args.iteration.0 c.args.delays c.args.nodes c.args.from (omega arith) (omega arith) (omega arith))
-
-pub bounds-values-i : goal.bounds-values-i
-bounds-values-i c =
-    omega (arith, back_in c.args.iteration.0 c.args.delays c.args.nodes c.args.from (length c.args.values.now) (omega arith) (omega arith))
-
 pub returns : goal.returns
 unfolding handed pick
 returns c =

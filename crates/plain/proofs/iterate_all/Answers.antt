@@ -1,92 +1,60 @@
 -- `plain::iterate_all` meets its contract: the values so far are stored.
 -- Assumes nothing.
+use mathlib.Core.Path.{◌≡◌, refl, sym, ◌∙◌, subst}
 use Prim.Native.Nat.{ℕ, ◌+◌, ◌*◌, ◌≤◌, ◌<◌}
 use native.Mathlib.Omega.{arith}
-use lib.ListN.{length, get_or}
+use lib.ListN.{length, length-set, get_or, take}
 use Rattle.lists.specs.Quotient.{rows-below}
 use Rattle.legal.specs.Loop.{loop_of, graph_of}
 use Rattle.operands.specs.Given.{form-tells, links-fit, links-begin, links-follow}
-use Rattle.operands.proofs.Laws.{place-small}
-use Rattle.plain.proofs.Laws.{next-less, come-first, come-more, come-last}
-use Rattle.plain.proofs.iterate_all.Goals.{In-loop-turn}
+use Rattle.plain.specs.Looping.{iterated}
+use Rattle.plain.proofs.Laws.{stored-none, stored_more, looped-none, looped-more}
+use Rattle.plain.proofs.iterate_all.Goals.{In-loop-k}
 use Rattle.plain.proofs.iterate_all.Goals as goal
 
-pub links_of-links-requires : goal.links_of-links-requires
-links_of-links-requires c =
-    (c.requires.well_formed.edges, λ e l. omega (arith, (c.requires.well_formed.edge e l).to, c.requires.well_formed.nodes.1))
+pub loop-i-init : goal.loop-i-init
+loop-i-init c = (refl, sym (looped-none _ _ _ _))
 
-pub loop-turn-init : goal.loop-turn-init
-loop-turn-init c = come-first _ _ _ _ _ _ c.requires.well_formed.nodes.0
+pub loop-k-init : goal.loop-k-init
+loop-k-init c = (refl, sym (stored-none _ _ c.args.order _ _))
 
 -- the node whose turn it is
-abbrev node : (c : In-loop-turn) → ℕ
-node c = get_or c.args.order c.loop-turn.turn.place 0
+abbrev node : In-loop-k → ℕ
+node p = get_or p.args.order p.loop-k.k 0
 
-node_in : (c : In-loop-turn) → node c < c.args.form.header.nodes
-node_in c = c.requires.order_len.1 _ c.loop-turn.invariant.inside
-
-node-small : (c : In-loop-turn) → node c < 64
-node-small c = omega (arith, node_in c, c.requires.well_formed.nodes.1)
+node-small : (p : In-loop-k) → node p < 64
+node-small p = omega (arith, p.requires.order_len.1 p.loop-k.k p.loop-k-test.true, p.requires.well_formed.nodes.1)
 
 -- its row is among the values
-row_in : (c : In-loop-turn) → c.loop-turn.turn.iteration * c.args.form.header.nodes + c.args.form.header.nodes ≤ length c.loop-turn.values
-row_in c =
-    omega (arith, rows-below c.loop-turn.turn.iteration c.args.iterations c.args.form.header.nodes c.loop-turn-test.true, c.requires.nodes_in_bounds.1, c.loop-turn.invariant.long)
-
-pub bounds-order-k : goal.bounds-order-k
-bounds-order-k c = omega (arith, c.requires.order_len.0, c.requires.well_formed.nodes.1, c.loop-turn.invariant.inside)
-
-pub overflow_cast-v : goal.overflow_cast-v
-overflow_cast-v c = omega (arith, node-small c)
-
-pub overflow_mul-row : goal.overflow_mul-row
-overflow_mul-row c = omega (arith, place-small c.loop-turn.turn.iteration c.args.form.header.nodes 0 (omega arith) (omega arith) (omega arith))
-
-pub offset_bounds-form-v : goal.offset_bounds-form-v
-offset_bounds-form-v c = omega (arith, node-small c)
-
-pub bounds-form-v : goal.bounds-form-v
-bounds-form-v c = node-small c
-
-pub offset_bounds-links-v : goal.offset_bounds-links-v
-offset_bounds-links-v c = omega (arith, node-small (goal.at.offset_bounds-links-v c).In-loop-turn)
-
-pub bounds-links-v : goal.bounds-links-v
-bounds-links-v c = node-small (goal.at.bounds-links-v c).In-loop-turn
+row_in : (p : In-loop-k) → p.loop-i.i * p.args.form.header.nodes + p.args.form.header.nodes ≤ length p.loop-k.values
+row_in p =
+    omega (arith, rows-below p.loop-i.i p.args.iterations p.args.form.header.nodes p.loop-i-test.true, p.requires.nodes_in_bounds.1, p.loop-i.invariant.0, p.loop-k.invariant.0)
 
 pub value_of-value-requires : goal.value_of-value-requires
-value_of-value-requires c = (
-  links-fit c.args.form _ _ c.links_of-links.ensures.chains c.requires.well_formed,
-  record { for_starts = c.requires.nodes_in_bounds.0; for_values = row_in (goal.at.value_of-value-requires c).In-loop-turn },
-  links-begin c.args.form _ _ c.links_of-links.ensures.chains _ (node-small (goal.at.value_of-value-requires c).In-loop-turn),
-  (loop_of c.args.form, (_, form-tells c.args.form, links-follow c.args.form _ _ c.links_of-links.ensures.chains _ (node-small (goal.at.value_of-value-requires c).In-loop-turn))),
-)
+value_of-value-requires c =
+    let p = (goal.at.value_of-value-requires c).In-loop-k in
+    let f = c.args.form in
+    let chains = c.links_of-links.ensures.chains in (
+      links-fit f _ _ chains c.requires.well_formed,
+      record { for_starts = c.requires.nodes_in_bounds.0; for_values = row_in p },
+      links-begin f _ _ chains _ (node-small p),
+      (loop_of f, (_, form-tells f, links-follow f _ _ chains _ (node-small p))),
+    )
 
-pub overflow_add-values : goal.overflow_add-values
-overflow_add-values c = omega (arith, place-small c.loop-turn.turn.iteration c.args.form.header.nodes (node (goal.at.overflow_add-values c).In-loop-turn) (omega arith) (omega arith) (omega (arith, node-small (goal.at.overflow_add-values c).In-loop-turn)))
-
-pub offset_bounds-values-row : goal.offset_bounds-values-row
-offset_bounds-values-row c = omega (arith, place-small c.loop-turn.turn.iteration c.args.form.header.nodes (node (goal.at.offset_bounds-values-row c).In-loop-turn) (omega arith) (omega arith) (omega (arith, node-small (goal.at.offset_bounds-values-row c).In-loop-turn)))
-
-pub bounds-values-row : goal.bounds-values-row
-bounds-values-row c = omega (arith, row_in (goal.at.bounds-values-row c).In-loop-turn, node_in (goal.at.bounds-values-row c).In-loop-turn)
-
-pub after-turn-requires : goal.after-turn-requires
-after-turn-requires c = (omega arith, c.loop-turn.invariant.inside)
-
-pub loop-turn-smaller : goal.loop-turn-smaller
-loop-turn-smaller c =
-    rw c.after-turn.ensures (next-less c.args.iterations c.args.form.header.nodes c.loop-turn.turn c.loop-turn-test.true c.loop-turn.invariant.inside)
-
-pub loop-turn-preserved : goal.loop-turn-preserved
+pub loop-k-preserved : goal.loop-k-preserved
 unfolding loop_of graph_of
-loop-turn-preserved c =
-    let v = node (goal.at.loop-turn-preserved c).In-loop-turn in
-    rw c.after-turn.ensures (come-more (loop_of c.args.form) c.args.starts.now c.args.order c.args.iterations c.args.form.header.nodes c.args.values.now c.loop-turn.turn c.loop-turn.values (omega (arith, c.requires.order_len.0, c.requires.well_formed.nodes.1)) c.loop-turn-test.true c.loop-turn.invariant _
-    (c.value_of-value.ensures (loop_of c.args.form) v (form-tells c.args.form) (links-follow c.args.form _ _ c.links_of-links.ensures.chains v (node-small (goal.at.loop-turn-preserved c).In-loop-turn))))
+loop-k-preserved c =
+    let p = (goal.at.loop-k-preserved c).In-loop-k in
+    let f = c.args.form in (
+      length-set c.loop-k.values _ _ ∙ c.loop-k.invariant.0,
+      stored_more (loop_of f) c.args.starts.now c.args.order c.loop-i.i c.loop-k.k c.loop-i.values c.loop-k.values (omega (arith, c.requires.order_len.0, c.requires.well_formed.nodes.1)) c.loop-k.invariant.1 _
+          (c.value_of-value.ensures (loop_of f) (node p) (form-tells f) (links-follow f _ _ c.links_of-links.ensures.chains (node p) (node-small p))),
+    )
 
-pub shape_of-values : goal.shape_of-values
-shape_of-values c = c.loop-turn.invariant.long
-
-pub returns : goal.returns
-returns c = come-last _ _ _ _ _ _ _ _ c.loop-turn-test.false c.loop-turn.invariant
+pub loop-i-preserved : goal.loop-i-preserved
+loop-i-preserved c =
+    let e : c.loop-k.k ≡ c.args.form.header.nodes = omega arith in (
+      c.loop-k.invariant.0 ∙ c.loop-i.invariant.0,
+      looped-more (loop_of c.args.form) c.args.starts.now (take c.args.form.header.nodes c.args.order) c.loop-i.i c.args.values.now c.loop-i.values c.loop-k.values c.loop-i.invariant.1
+          (subst (λ (n : ℕ). c.loop-k.values ≡ iterated (loop_of c.args.form) c.args.starts.now (take n c.args.order) c.loop-i.values c.loop-i.i) e c.loop-k.invariant.1),
+    )

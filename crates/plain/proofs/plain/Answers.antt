@@ -1,20 +1,21 @@
 -- `plain::plain` meets its contract: the reader's refusal, else the form's.
 -- Assumes nothing.
-use mathlib.Core.Path.{refl, sym, ◌∙◌}
+use mathlib.Core.Path.{refl}
 use native.Mathlib.Omega.{arith}
-use Rattle.record.specs.Read.{read-good}
+use Rattle.std.proofs.lemmas.Result.{err_from_is_err_and}
+use Rattle.answer.specs.Refused.{fine}
+use Rattle.record.specs.ReadFirst.{well-read}
 use Rattle.plain.proofs.Answers.{record-refused, record-looped}
 use Rattle.plain.proofs.plain.Goals as goal
 
-pub returns-then-not-is_fine : goal.returns-then-not-is_fine
-returns-then-not-is_fine c =
-    record-refused _ _ c.read-read.ensures _ _ _ _ _ (sym c.is_fine.ensures ∙ c.if-not-is_fine.true) c.alone.ensures.0 c.alone.ensures.1 refl
+pub returns-in_err-form : goal.returns-in_err-form
+returns-in_err-form c =
+    let p = err_from_is_err_and c.from_residual.result c.from_residual.ensures.1 in
+    rw (p.1, p.2) (record-refused _ _ _ _ _ c.in_err-form.ensures)
 
 pub plain_form-requires : goal.plain_form-requires
-plain_form-requires c =
-    read-good c.args.«record».now _ c.read-read.ensures (λ i. omega (arith, c.type_inv.«record» i))
-    (sym c.is_fine.ensures ∙ c.if-not-is_fine.false)
+unfolding fine
+plain_form-requires c = (well-read c.args.«record».now _ c.in_ok-form.ensures (λ i. omega (arith, c.type_inv.«record» i)) refl).good
 
 pub returns : goal.returns
-returns c =
-    record-looped _ _ c.read-read.ensures _ _ _ _ _ (sym c.is_fine.ensures ∙ c.if-not-is_fine.false) c.plain_form.ensures
+returns c = record-looped _ _ _ _ _ _ _ c.in_ok-form.ensures c.plain_form.ensures

@@ -1,23 +1,30 @@
--- `plans::write_plan` meets its contract: the refusal of the plan, else what the writer makes of the form with its pair.
+-- `plans::write_plan` meets its contract: what the writer makes of the form with its pair.
 -- Assumes nothing.
-use mathlib.Core.Path.{◌≡◌, sym, subst, ◌∙◌}
+use mathlib.Core.Path.{◌≡◌, sym, subst}
 use mathlib.Core.Bool.{true}
-use Rattle.answer.specs.Refused.{fine}
+use Rattle.std.specs.Prelude.{Ok, Err}
+use Rattle.std.proofs.lemmas.Result.{err_from_is_err_and}
+use Rattle.answer.specs.Refused.{fine, refused_fine, none_fine}
 use Rattle.form.specs.declared.Form.{Form}
 use Rattle.reader.specs.Reading.{read_form}
 use Rattle.writer.specs.Layout.{layout}
-use Rattle.plans.proofs.Entries.{plan-refused, plan-written}
+use Rattle.plans.proofs.Entries.{plan-roomless, plan-told}
 use Rattle.plans.proofs.Steps.{stored}
 use Rattle.plans.proofs.write_plan.Goals as goal
 
-pub returns-then-not-is_fine : goal.returns-then-not-is_fine
-returns-then-not-is_fine c = plan-refused _ _ _ (sym c.is_fine.ensures ∙ c.if-not-is_fine.true)
+pub write_taken-requires : goal.write_taken-requires
+write_taken-requires c =
+    subst (λ (f : Form). fine (read_form (layout f)).refusal ≡ true) (sym (stored _ _ _ c.steps_of-steps.ensures)) c.requires
 
-pub write_taken-written-requires : goal.write_taken-written-requires
-write_taken-written-requires c =
-    subst (λ (f : Form). fine (read_form (layout f)).refusal ≡ true) (sym (stored _ _ _ c.steps_of-steps.ensures))
-    (c.requires (sym c.is_fine.ensures ∙ c.if-not-is_fine.false))
+pub returns-in_err-size : goal.returns-in_err-size
+returns-in_err-size c =
+    let was : c.write_taken.result ≡ Err c.in_err-size.field-0.0 = cc in
+    let is = rw was at c.write_taken.ensures.0 in
+    let told = err_from_is_err_and c.from_residual.result c.from_residual.ensures.1 in
+    rw (told.1, told.2) (plan-roomless _ _ _ none_fine _ (stored _ _ _ c.steps_of-steps.ensures) _ _ is c.write_taken.ensures.1 (refused_fine _))
 
 pub returns : goal.returns
 returns c =
-    plan-written _ _ _ (sym c.is_fine.ensures ∙ c.if-not-is_fine.false) _ (stored _ _ _ c.steps_of-steps.ensures) _ _ c.write_taken-written.ensures.0 c.write_taken-written.ensures.1 _ c.is_fine-2.ensures _ c.told.ensures
+    let was : c.write_taken.result ≡ Ok c.in_ok-size.size = cc in
+    let is = rw was at c.write_taken.ensures.0 in
+    plan-told _ _ _ none_fine _ (stored _ _ _ c.steps_of-steps.ensures) _ _ is c.write_taken.ensures.1 none_fine

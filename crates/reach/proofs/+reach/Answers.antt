@@ -2,7 +2,7 @@
 -- Assumes nothing.
 use Prim.Native.Nat.{◌<◌}
 use native.Mathlib.Omega.{arith}
-use Rattle.reach.proofs.Marks.{none-waits, none_left}
+use Rattle.reach.proofs.Marks.{none_left}
 use Rattle.reach.proofs.+reach.Goals as goal
 
 pub returns-then-left-eq0 : goal.returns-then-left-eq0
@@ -11,14 +11,6 @@ returns-then-left-eq0 t c =
       queued = c.requires.1;
       grows = omega arith;
       reaches = λ g r v told enough k. none_left g r v _ _ _ _ _ _ _ told _ _ _ (omega arith) c.requires.1 enough k;
-    }
-
-pub returns-then-from-to : goal.returns-then-from-to
-returns-then-from-to t c =
-    record {
-      queued = c.requires.1;
-      grows = omega arith;
-      reaches = λ g r v told enough k. none-waits g r v _ _ _ _ (omega arith) k;
     }
 
 pub returns : goal.returns

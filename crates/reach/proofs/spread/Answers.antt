@@ -9,29 +9,9 @@ pub loop-e-init : goal.loop-e-init
 loop-e-init c =
     (c.requires.0.begins _ c.requires.2, c.requires.1, omega arith, λ g r v f t h k. half-first g r _ _ _ _ _ t v _ _ _ f _ c.requires.2 h k)
 
-pub bounds-heads-i : goal.bounds-heads-i
-bounds-heads-i c =
-    omega (arith, c.requires.0.few)
-
-pub bounds-tights-i : goal.bounds-tights-i
-bounds-tights-i c =
-    omega (arith, c.requires.0.few)
-
-pub mark-end-requires : goal.mark-end-requires
-mark-end-requires c =
-    (c.loop-e.invariant.1, c.requires.0.head_in c.loop-e.e (omega arith))
-
-pub bounds-next-i : goal.bounds-next-i
-bounds-next-i c =
-    omega (arith, c.requires.0.few)
-
-pub loop-e-smaller : goal.loop-e-smaller
-loop-e-smaller c =
-    omega (arith, c.requires.0.leads-on c.loop-e.e (omega arith))
-
 pub loop-e-preserved : goal.loop-e-preserved
 loop-e-preserved c =
-    let inside : c.loop-e.e < c.args.edges = omega arith in (
+    let inside : c.loop-e.e < c.args.ways.edges = omega arith in (
       c.requires.0.leads-in c.loop-e.e inside,
       c.mark-end.ensures.queued,
       omega (arith, c.mark-end.ensures.grows),

@@ -9,10 +9,7 @@ pub reach-reached-requires : goal.reach-reached-requires
 reach-reached-requires c =
     (c.requires.2, queued-start c.args.v (omega arith), omega arith)
 
-pub overflow_sub-result : goal.overflow_sub-result
-overflow_sub-result c = omega (arith, c.reach-reached.ensures.grows)
-
 pub returns : goal.returns
 returns c g r n told =
     let inside : c.args.v < g.graph.nodes = omega arith in
-    weight_is g r _ _ _ _ _ _ _ _ told _ c.reach-reached.ensures.queued (c.reach-reached.ensures.reaches g r _ told (λ l. omega (arith, n)) (marking-start c.args.v (omega arith) g r inside))
+    omega (arith, weight_is g r _ _ _ _ _ _ _ _ told _ c.reach-reached.ensures.queued (c.reach-reached.ensures.reaches g r _ told (λ l. omega (arith, n)) (marking-start c.args.v (omega arith) g r inside)))

@@ -1,30 +1,23 @@
 -- `reader::edges` meets its contract: each edge is read in turn.
 -- Assumes nothing.
-use mathlib.Core.Path.{sym, ◌∙◌}
 use native.Mathlib.Omega.{arith}
 use borrow.Author.Rules.{rules}
+use Rattle.answer.specs.Outcome.{err-is}
 use Rattle.reader.specs.Tables.{edge_step}
 use Rattle.reader.proofs.Laws.{begin, turn, stop, finish}
 use Rattle.reader.proofs.edges.Goals as goal
 
 pub loop-i-init : goal.loop-i-init
-loop-i-init c = (search rules, search rules, search rules, omega arith, λ f k. begin _ _ _ _)
+loop-i-init c = (search rules, search rules, search rules, λ f k. begin)
 
-pub returns-then-not-is_fine : goal.returns-then-not-is_fine
-returns-then-not-is_fine c f k =
-    stop _ _ _ _ _ _ (c.loop-i.invariant.4 f k) c.loop-i-test.true (sym c.is_fine.ensures ∙ c.if-not-is_fine.true)
+pub returns-in_err-edge : goal.returns-in_err-edge
+unfolding edge_step
+returns-in_err-edge c =
+    rw (err-is _ _ c.from_residual.ensures.1) (λ f k. stop (c.loop-i.invariant.3 f k) c.loop-i-test.true _ (rw k c.in_err-edge.ensures))
 
 pub loop-i-preserved : goal.loop-i-preserved
 unfolding edge_step
-loop-i-preserved c = (
-  search rules,
-  search rules,
-  search rules,
-  omega arith,
-  λ f k.
-      turn _ _ _ _ _ _ (c.loop-i.invariant.4 f k) c.loop-i-test.true (sym c.is_fine.ensures ∙ c.if-not-is_fine.false) _ (rw (c.edge_row-row.ensures.is, k))
-      (omega (arith, c.edge_row-row.ensures.near)),
-)
+loop-i-preserved c = (search rules, search rules, search rules, λ f k. turn (c.loop-i.invariant.3 f k) c.loop-i-test.true _ (rw (k, ← c.in_ok-edge.ensures)))
 
 pub returns : goal.returns
-returns c f k = finish _ _ _ _ _ _ (c.loop-i.invariant.4 f k) c.loop-i-test.false
+returns c f k = finish (c.loop-i.invariant.3 f k) (omega arith)

@@ -5,11 +5,9 @@ use lib.Seq.{length-take-le}
 use Rattle.rsk_list.proofs.main.Goals as goal
 
 pub slice_bounds-text-end : goal.slice_bounds-text-end
-slice_bounds-text-end c = omega (arith, listed-within _ _ _ c.list-listed.ensures.value, c.list-listed.auto.out)
+slice_bounds-text-end c = omega (arith, listed-within _ _ _ c.in-Ok.ensures.value, c.list.auto.out)
 
 pub slice_bounds-write_all-end : goal.slice_bounds-write_all-end
 slice_bounds-write_all-end c =
-    let within : c.list-listed.result.size ≤ length c.list-listed.new.out =
-    omega (arith, listed-within _ _ _ c.list-listed.ensures.value, c.list-listed.auto.out)
-    in
+    let within : c.in-Ok.size ≤ length c.list.new.out = omega (arith, listed-within _ _ _ c.in-Ok.ensures.value, c.list.auto.out) in
     sym (length-take-le _ _ within)

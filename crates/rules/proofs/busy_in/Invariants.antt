@@ -6,4 +6,4 @@ use Rattle.rules.specs.Busy.{busy_in}
 use Rattle.rules.proofs.busy_in.Given as goal
 
 abbrev pub invariant-loop-v : goal.invariant-loop-v
-invariant-loop-v l = (l.v ≤ l.nodes) × (l.busy ≤ 255 * l.v) × (l.busy ≡ busy_in l.length l.runs l.start l.class l.hold l.step l.v)
+invariant-loop-v l = (l.busy ≤ 255 * l.v) × (l.busy ≡ busy_in l.length l.runs l.start l.class l.hold l.step l.v)

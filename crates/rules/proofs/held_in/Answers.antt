@@ -12,12 +12,12 @@ overflow_sub-result-then-length-steps c =
 
 pub returns-then-length-steps : goal.returns-then-length-steps
 returns-then-length-steps c =
-    let is = held-round c.args.length c.args.start c.args.hold c.args.step _ c.requires.0 c.requires.1 c.requires.2 c.requires.3 c.gap_of-gap.ensures (omega (arith, overflow_sub-result-then-length-steps c)) in
+    let is = held-round c.args.length c.args.start c.args.hold c.args.step _ c.requires.0 c.requires.1 c.requires.2 c.requires.3 c.gap_of-gap.ensures _ c.from-steps.ensures (omega (arith, overflow_sub-result-then-length-steps c)) in
     (is, omega (arith, is, held-few c.args.length c.args.start c.args.hold c.args.step))
 
 pub overflow_add-result : goal.overflow_add-result
 overflow_add-result c =
-    omega (arith, div-le_self (c.args.hold - 1 - c.gap_of-gap.result) c.args.length)
+    omega (arith, div-le_self (c.from-steps.result - 1 - c.gap_of-gap.result) c.args.length)
 
 pub returns-then-gap-steps : goal.returns-then-gap-steps
 returns-then-gap-steps c =

@@ -4,10 +4,10 @@ use native.Mathlib.Omega.{arith}
 use Rattle.rules.specs.Lowest.{node-inside, node_over}
 use Rattle.rules.proofs.node_spot.Goals as goal
 
-pub returns-then-end-length : goal.returns-then-end-length
-returns-then-end-length c =
-    node-inside c.args.length c.args.runs.now c.args.start.now c.args.nodes c.args.class c.args.number c.args.step c.args.lowest _ c.lower_spot-lower.ensures (omega (arith, c.hold_of.ensures))
+pub returns-then-end-last : goal.returns-then-end-last
+returns-then-end-last c =
+    node-inside _ _ _ _ _ _ _ _ _ c.lower_spot-lower.ensures (omega (arith, c.hold_of.ensures))
 
 pub returns : goal.returns
 returns c =
-    node_over c.args.length c.args.runs.now c.args.start.now c.args.nodes c.args.class c.args.number c.args.step c.args.lowest _ c.lower_spot-lower.ensures _ (omega (arith, c.hold_of.ensures)) c.lower_spot.ensures
+    node_over _ _ _ _ _ _ _ _ _ c.lower_spot-lower.ensures _ (omega (arith, c.hold_of.ensures)) c.lower_spot.ensures

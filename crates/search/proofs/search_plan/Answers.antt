@@ -1,27 +1,29 @@
 -- `search::search_plan` meets its contract: the knot, then the size, else the search.
 -- Assumes nothing.
-use Prim.Native.Nat.{◌≤◌}
 use native.Mathlib.Omega.{arith}
+use Rattle.std.proofs.lemmas.Result.{err_from_is_err_and}
+use Rattle.answer.specs.Outcome.{no_cycle}
 use Rattle.tables.specs.Lent.{lent-ends}
-use Rattle.search.proofs.Plans.{search-knot, search-size, search-planned}
+use Rattle.search.proofs.Plans.{search-tied, search-size, search-planned}
 use Rattle.search.proofs.search_plan.Goals as goal
 
-pub knot_of-knot-requires : goal.knot_of-knot-requires
-knot_of-knot-requires c = lent-ends c.requires.0 _ _ _ _ _ c.requires.1.lent
+pub unknotted-requires : goal.unknotted-requires
+unknotted-requires c = lent-ends c.requires.0 _ _ _ _ _ c.requires.1.lent
 
-pub returns-then-knot-gt0 : goal.returns-then-knot-gt0
-returns-then-knot-gt0 c f k = search-knot f _ _ _ (c.knot_of-knot.ensures _ k.lent.told) (omega (arith, c.if-knot-gt0.true)) _
+pub returns-in_err-unknotted : goal.returns-in_err-unknotted
+returns-in_err-unknotted c f k =
+    let told = err_from_is_err_and c.from_residual.result c.from_residual.ensures.1 in
+    rw (told.1, told.2) (search-tied f _ _ _ c.in_err-unknotted.field-0.0 (c.in_err-unknotted.ensures _ k.lent.told))
 
 pub returns-then-size-eq0 : goal.returns-then-size-eq0
 returns-then-size-eq0 c f k =
-    search-size f _ _ _ (c.knot_of-knot.ensures _ k.lent.told) (omega (arith, c.if-knot-gt0.false)) (omega (arith, c.if-size-eq0.true)) _
+    rw c.into.ensures (search-size f _ _ no_cycle (c.in_ok-unknotted.ensures _ k.lent.told) (omega arith) (omega (arith, c.if-size-eq0.true)) _)
 
-pub search_times-found-requires : goal.search_times-found-requires
-search_times-found-requires c =
-    (c.requires.0, record { tabled = c.requires.1; free = (c.knot_of-knot.ensures _ c.requires.1.lent.told).free (omega (arith, c.if-knot-gt0.false)) })
+pub search_times-requires : goal.search_times-requires
+search_times-requires c =
+    (c.requires.0, record { tabled = c.requires.1; free = (c.in_ok-unknotted.ensures _ c.requires.1.lent.told).free (omega arith) })
 
 pub returns : goal.returns
 returns c f k =
-    let found = c.knot_of-knot.ensures _ k.lent.told in
-    let none : c.knot_of-knot.result.count ≤ 0 = omega (arith, c.if-knot-gt0.false) in
-    search-planned f _ _ _ found none (λ e. omega (arith, e, c.if-size-eq0.false)) _ _ (c.search_times-found.ensures f (record { tabled = k; free = found.free (omega (arith, none)) }))
+    let found = c.in_ok-unknotted.ensures _ k.lent.told in
+    search-planned f _ _ no_cycle found (omega arith) (λ e. omega (arith, e, c.if-size-eq0.false)) _ _ (c.search_times.ensures f (record { tabled = k; free = found.free (omega arith) }))

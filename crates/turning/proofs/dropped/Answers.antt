@@ -10,7 +10,7 @@ loop-v-init c = (omega arith, fill_none _ _)
 
 pub loop-v-preserved : goal.loop-v-preserved
 loop-v-preserved c =
-    (omega arith, fill_more _ _ c.loop-v.v _ _ (omega arith) c.less.ensures c.loop-v.invariant.1)
+    (omega arith, fill_more _ _ c.loop-v.v _ _ (omega arith) c.saturating_sub.ensures c.loop-v.invariant.1)
 
 pub returns : goal.returns
 returns c =

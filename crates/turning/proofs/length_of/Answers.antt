@@ -4,7 +4,6 @@ use mathlib.Core.Path.{sym, ◌∙◌}
 use native.Mathlib.Omega.{arith}
 use borrow.Author.Rules.{rules}
 use Rattle.turning.proofs.Laws.{last_none, last_more, last-all}
-use Rattle.turning.proofs.length_of.Goals.{else-last-end, then-last-end}
 use Rattle.turning.proofs.length_of.Goals as goal
 
 pub loop-v-init : goal.loop-v-init
@@ -25,8 +24,7 @@ overflow_sub-end c =
 pub loop-v-preserved : goal.loop-v-preserved
 loop-v-preserved c = (
   search rules,
-  λ g takes.
-      elim c.if-last-end.branch [ then-last-end w ↦ omega (arith, last_more g c.args.start.now c.loop-v.v, c.loop-v.invariant.1 g takes, takes c.loop-v.v (omega (arith, c.loop-v-test.true))) | else-last-end w ↦ omega (arith, last_more g c.args.start.now c.loop-v.v, c.loop-v.invariant.1 g takes, takes c.loop-v.v (omega (arith, c.loop-v-test.true))) ],
+  λ g takes. omega (arith, c.max-last.ensures, last_more g c.args.start.now c.loop-v.v, c.loop-v.invariant.1 g takes, takes c.loop-v.v (omega (arith, c.loop-v-test.true))),
 )
 
 pub returns : goal.returns

@@ -6,7 +6,7 @@ use Rattle.words.proofs.Laws.{no_digit, digit-put}
 use Rattle.words.proofs.put_place.Goals as goal
 
 pub returns-then-number-place : goal.returns-then-number-place
-returns-then-number-place c = (search rules, no_digit _ _ _ _ c.if-number-place.true)
+returns-then-number-place c = (search rules, no_digit _ _ _ c.if-number-place.true)
 
 pub returns : goal.returns
-returns c = (search rules, digit-put _ _ _ _ _ _ (omega arith) c.put_byte.ensures.1)
+returns c = (search rules, digit-put _ _ _ _ (omega arith) c.byte.ensures)

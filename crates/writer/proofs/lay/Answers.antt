@@ -6,10 +6,10 @@ use Rattle.writer.proofs.lay.Goals as goal
 
 pub returns : goal.returns
 returns c = (
-  omega (arith, c.put_header-classes_at.ensures.0, c.put_classes-nodes_at.ensures.0, c.rows_of.ensures.1, c.put_nodes-edges_at.ensures.0, c.rows_of-2.ensures.1, c.put_edges-starts_at.ensures.0, c.rows_of-edges.ensures.1, c.put_starts.ensures.0, c.rows_of-3.ensures.1),
+  omega (arith, c.put_header-classes_at.ensures.0, c.put_rows-nodes_at.ensures.0, c.put_rows-edges_at.ensures.0, c.put_rows-starts_at.ensures.0, c.put_rows.ensures.0, c.min-classes.ensures, c.min-nodes.ensures, c.min-edges.ensures, c.min-scheduled.ensures),
   whole _ _ _ _ _ _ _ _ _ _ _ _ _ _ _ _ c.put_header-classes_at.ensures.1
-      c.put_classes-nodes_at.ensures.1 c.rows_of.ensures.0
-      c.put_nodes-edges_at.ensures.1 c.rows_of-2.ensures.0
-      c.put_edges-starts_at.ensures.1 c.rows_of-edges.ensures.0
-      c.put_starts.ensures.1 (rw (← c.scheduled_of-scheduled.ensures) c.rows_of-3.ensures.0),
+      c.put_rows-nodes_at.ensures.1 c.min-classes.ensures
+      c.put_rows-edges_at.ensures.1 c.min-nodes.ensures
+      c.put_rows-starts_at.ensures.1 c.min-edges.ensures
+      c.put_rows.ensures.1 (rw (← c.scheduled_of.ensures) c.min-scheduled.ensures),
 )

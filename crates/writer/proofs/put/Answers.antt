@@ -10,4 +10,4 @@ returns-then-out-size c f is good =
 
 pub returns : goal.returns
 returns c f is good =
-    fits f c.args.bytes.now c.args.out.now is good _ (omega arith) _ (omega (arith, c.if-out-size.false)) c.copy.ensures
+    fits f c.args.bytes.now c.args.out.now is good (omega (arith, c.if-out-size.false)) _ (cc)

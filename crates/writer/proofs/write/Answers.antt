@@ -1,8 +1,10 @@
 -- `writer::write` meets its contract: the reader's refusal of what is laid out, else what is put.
 -- Assumes nothing.
-use mathlib.Core.Path.{sym, ◌∙◌}
+use Rattle.std.proofs.lemmas.Result.{err_from_is_err_and}
+use mathlib.Core.Path.{sym}
 use native.Mathlib.Omega.{arith}
 use lib.ListN.{replicate}
+use borrow.Author.Rules.{rules}
 use Rattle.laid.specs.Laws.{same-long}
 use Rattle.writer.proofs.Laws.{front_long, front, refused, accepted}
 use Rattle.writer.proofs.write.Goals as goal
@@ -20,8 +22,9 @@ put-requires c =
 pub returns : goal.returns
 returns c =
     c.put.ensures _ (front (replicate 1367 0) _ _ _ c.lay-size.ensures.1 c.lay-size.ensures.0)
-    (accepted (replicate 1367 0) _ _ _ c.lay-size.ensures.1 c.lay-size.ensures.0 _ c.read-record.ensures (sym c.is_fine.ensures ∙ c.if-not-is_fine.false))
+    (accepted (replicate 1367 0) _ _ _ c.lay-size.ensures.1 c.lay-size.ensures.0 _ c.read.ensures (search rules))
 
-pub returns-then-not-is_fine : goal.returns-then-not-is_fine
-returns-then-not-is_fine c =
-    refused (replicate 1367 0) _ _ _ c.lay-size.ensures.1 c.lay-size.ensures.0 _ c.read-record.ensures _ (sym c.is_fine.ensures ∙ c.if-not-is_fine.true)
+pub returns-in_err-read : goal.returns-in_err-read
+returns-in_err-read c =
+    let p = err_from_is_err_and c.from_residual.result c.from_residual.ensures.1 in
+    rw (p.1, p.2) (refused (replicate 1367 0) _ _ _ c.lay-size.ensures.1 c.lay-size.ensures.0 _ c.in_err-read.ensures _)

@@ -1,0 +1,12 @@
+-- `writer::NodeRowsTable::put` meets its contract.
+-- Assumes nothing.
+use mathlib.Core.Path.{refl}
+use native.Mathlib.Numerals.{unary_clauses}
+use Rattle.field.specs.Number.{bytes_of}
+use Rattle.writer.specs.Layout.{node_bytes}
+use borrow.Author.Rules.{rules}
+use Rattle.writer.proofs.NodeRowsTable.put.Goals as goal
+
+pub returns : goal.returns
+unfolding node_bytes bytes_of
+returns c = (search rules, record { is = simp (unary_clauses, c.code_of.ensures, c.constant_of-constant.ensures); ends = refl })
