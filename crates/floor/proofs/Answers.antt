@@ -31,9 +31,9 @@ use Rattle.legal.specs.Shape.{sound-form}
 use Rattle.legal.specs.Knots.{unknotted-free}
 use Rattle.tables.specs.declared.Timetable.{Timetable}
 use Rattle.tables.specs.Most.{most_of}
-use Rattle.tables.specs.Times.{times_of, Timed}
+use Rattle.tables.specs.Times.{Timed}
 use Rattle.tables.specs.Edges.{ToldBy}
-use Rattle.tables.specs.Lent.{Lent, LentBy, lent-form}
+use Rattle.tables.specs.Lent.{LentBy}
 use Rattle.knots.specs.Found.{KnotFound, Untied}
 use Rattle.record.specs.Early.{read-early}
 use Rattle.record.specs.ReadFirst.{first-refused, first-asked}
@@ -171,10 +171,6 @@ floored-knot f e u =
     subst (λ (r : Refusal). FormFloored f (record { refusal = Some r; floor = 0; part = part.None; cycle = cycle_or e.cycle })) (sym u.0) (knotted-floored f (cycle_or e.cycle) u.1 u.2)
 
 -- ---- a record
-
--- its form's edges as they are lent
-pub lent-edges : (f : Form) (m : ℕ) (from to delays : List ℕ) (t : Timetable) → m ≡ f.header.edges → (from ≡ f.from) × (to ≡ f.to) × (delays ≡ f.delays) → WellFormed f → t ≡ times_of f → Lent f m from to delays t
-lent-edges f m from to delays t few tables w is = rw (few, tables.0, tables.1, tables.2) (lent-form f t w is)
 
 -- refused by the reader
 pub record-refused : (s : List ℕ) (r : Refusal) → record_in (Err r) ≡ read_form s → RecordFloored s (floored_in (Err (record { refusal = r; cycle = None })))

@@ -7,9 +7,8 @@ use Rattle.std.specs.Prelude.{Some, Ok, Err}
 use Prim.Native.Nat.{ℕ}
 use lib.ListN.{length}
 use Rattle.lists.specs.Pick.{pick}
-use Rattle.answer.specs.Refused.{fine}
+use Rattle.answer.specs.Refused.{fine, refused_fine}
 use Rattle.answer.specs.declared.Refusal.{Refusal}
-use Rattle.answer.specs.declared.Refusal.TheVariants.{Short, Mark, Version, Count, Machine, Node, Edge, Start, Retiming, Tail, Bare, Knot, Dependence, NoRetiming, Units, Size, Long, Room, Early, Busy}
 use Rattle.form.specs.declared.Form.{Form}
 use Rattle.field.specs.Number.{Bytes}
 use Rattle.reader.specs.Outcome.{Record, record_in}
@@ -22,35 +21,11 @@ use Rattle.record.specs.ReadHeld.{read_held}
 use Rattle.record.specs.Written.{well-formed-written}
 use Rattle.rsk_c.specs.Rewrite.{rewritten, rewritten_out}
 
--- a refusal is no fine verdict
-refuses : (e : Refusal) → fine (Some e) ≡ false
-unfolding fine
-refuses (Short a) = refl
-refuses (Mark a) = refl
-refuses (Version a) = refl
-refuses (Count a) = refl
-refuses (Machine a) = refl
-refuses (Node a) = refl
-refuses (Edge a) = refl
-refuses (Start a) = refl
-refuses (Retiming a) = refl
-refuses (Tail a) = refl
-refuses Bare = refl
-refuses Knot = refl
-refuses (Dependence a) = refl
-refuses NoRetiming = refl
-refuses (Units a b) = refl
-refuses (Size a) = refl
-refuses Long = refl
-refuses (Room a) = refl
-refuses (Early a b c) = refl
-refuses (Busy a b c) = refl
-
 module _ (s out : List ℕ) where
   -- what the reader refuses, which leaves the buffer as it was
   pub rewrite-refused : (e : Refusal) → record_in (Err e) ≡ read_form s → (written_in (Err e) ≡ rewritten s (length out)) × (out ≡ rewritten_out s out)
   unfolding rewritten rewritten_out pick
-  rewrite-refused e back = (rw (← back, refuses e), rw (← back, refuses e))
+  rewrite-refused e back = (rw (← back, refused_fine e), rw (← back, refused_fine e))
 
   pub rewrite-passed : (f : Form) → record_in (Ok f) ≡ read_form s → (rewritten s (length out) ≡ written f (length out)) × (rewritten_out s out ≡ buffer_after f out)
   unfolding rewritten rewritten_out pick fine

@@ -5,8 +5,8 @@ use Rattle.answer.specs.Refused.{none_fine}
 use Rattle.std.proofs.lemmas.Result.{err_from_is_err_and}
 use Rattle.form.specs.Ranges.{WellFormed}
 use Rattle.record.specs.ReadFirst.{well-read}
-use Rattle.tables.specs.Lent.{LentBy}
-use Rattle.floor.proofs.Answers.{lent-edges, record-refused, record-floored}
+use Rattle.tables.specs.Lent.{LentBy, lent-edges}
+use Rattle.floor.proofs.Answers.{record-refused, record-floored}
 use Rattle.floor.proofs.floor.Goals.{In_ok-form, After-times_of}
 use Rattle.floor.proofs.floor.Goals as goal
 
@@ -20,7 +20,7 @@ good : (p : In_ok-form) → WellFormed p.in_ok-form.form
 good p = (well-read p.args.«record».now _ p.in_ok-form.ensures (λ i. omega (arith, p.type_inv.«record» i)) none_fine).good
 
 lent : (p : After-times_of) → WellFormed p.in_ok-form.form → LentBy p.in_ok-form.form p.edges.result p.times_of.result
-lent p w = lent-edges _ _ _ _ _ _ p.edges.ensures.count p.edges.ensures.tables w p.times_of.ensures
+lent p w = lent-edges _ p.edges.result _ p.edges.ensures.count p.edges.ensures.tables w p.times_of.ensures
 
 pub times_of-requires : goal.times_of-requires
 times_of-requires c = good (goal.at.times_of-requires c).In_ok-form

@@ -6,7 +6,7 @@ use borrow.Author.Rules.{rules}
 use Rattle.answer.specs.Refused.{none_fine}
 use Rattle.form.specs.Ranges.{WellFormed}
 use Rattle.record.specs.Read.{read-good}
-use Rattle.plans.specs.Tabled.{TabledBy, tabled-form}
+use Rattle.plans.specs.Tabled.{TabledBy, tabled-edges}
 use Rattle.plans.proofs.Entries.{entry-unread, plan-taken, entry-planned, entry-refused}
 use Rattle.search.specs.Searching.{search_asked, search_form, search_turns}
 use Rattle.search.proofs.Plans.{search-writes}
@@ -26,9 +26,7 @@ pub times_of-requires : goal.times_of-requires
 times_of-requires c = good (goal.at.times_of-requires c).In_ok-form
 
 tabled : (p : After-times_of) → WellFormed p.in_ok-form.form → TabledBy p.in_ok-form.form p.edges.result p.times_of.result
-tabled p w =
-    let lent = p.edges.ensures in
-    rw (lent.count, lent.tables.0, lent.tables.1, lent.tables.2) (tabled-form _ _ w p.times_of.ensures)
+tabled p w = tabled-edges _ p.edges.result _ p.edges.ensures.count p.edges.ensures.tables w p.times_of.ensures
 
 pub search_plan-requires : goal.search_plan-requires
 search_plan-requires c = let at = goal.at.search_plan-requires c in (c.in_ok-form.form, tabled at.After-times_of (good at.In_ok-form))
