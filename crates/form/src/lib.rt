@@ -74,6 +74,13 @@ pub struct Edges<'a> {
     pub delays: &'a [u8; 256],
 }
 
+// A form with no place left for what was to be added: the form as it was, and what is refused.
+#[derive(Clone, Copy)]
+pub struct Full {
+    pub form: Form,
+    pub refusal: Refusal,
+}
+
 impl Form {
     // No class, node or edge, and 0 everywhere.
     pub fn empty() -> Self
@@ -116,14 +123,17 @@ impl Form {
         }
     }
 
-    // One class more at the end of the table, or Count where there is no place.
-    pub fn add_class(mut self, class: Class) -> Result<Self, Refusal>
-        ensures { added_of self result ≡ class_added self class }
+    // One class more at the end of the table, or Count and the form as it was where there is no place.
+    pub fn add_class(mut self, class: Class) -> Result<Self, Full>
+        ensures { added_of result ≡ class_added self class }
     {
         let classes = self.header.classes;
         let full = 4 <= classes;
         if full {
-            return Err(Refusal::Count(0));
+            return Err(Full {
+                form: self, // without the class
+                refusal: Refusal::Count(0),
+            });
         }
         let at = classes as usize;
         self.class[at] = class;
@@ -132,14 +142,17 @@ impl Form {
         Ok(self)
     }
 
-    // One node more at the end of the table, or Count where there is no place.
-    pub fn add_node(mut self, node: Node) -> Result<Self, Refusal>
-        ensures { added_of self result ≡ node_added self node }
+    // One node more at the end of the table, or Count and the form as it was where there is no place.
+    pub fn add_node(mut self, node: Node) -> Result<Self, Full>
+        ensures { added_of result ≡ node_added self node }
     {
         let nodes = self.header.nodes;
         let full = 64 <= nodes;
         if full {
-            return Err(Refusal::Count(0));
+            return Err(Full {
+                form: self, // without the node
+                refusal: Refusal::Count(0),
+            });
         }
         let at = nodes as usize;
         self.node[at] = node;
@@ -148,14 +161,17 @@ impl Form {
         Ok(self)
     }
 
-    // One edge more at the end of the tables, or Count where there is no place.
-    pub fn add_edge(mut self, edge: Edge) -> Result<Self, Refusal>
-        ensures { added_of self result ≡ edge_added self edge }
+    // One edge more at the end of the tables, or Count and the form as it was where there is no place.
+    pub fn add_edge(mut self, edge: Edge) -> Result<Self, Full>
+        ensures { added_of result ≡ edge_added self edge }
     {
         let edges = self.header.edges;
         let full = 256 <= edges;
         if full {
-            return Err(Refusal::Count(0));
+            return Err(Full {
+                form: self, // without the edge
+                refusal: Refusal::Count(0),
+            });
         }
         let at = edges as usize;
         self.from[at] = edge.from;
