@@ -1,16 +1,31 @@
--- Numbers read digit by digit.
+-- Words compared, and numbers read digit by digit.
 -- Assumes nothing.
-use Rattle.std.specs.Prelude.{None, Some}
+use Rattle.std.specs.Prelude.{None, Some, ◌&&◌}
 use Rattle.std.specs.Option.{option_and_then}
+use Rattle.std.specs.Str.{bytes_eq}
 use mathlib.Core.Path.{◌≡◌, refl, sym, ◌∙◌}
 use mathlib.Core.Logic.{◌≢◌}
 use mathlib.Core.List.{List, [], ◌∷◌}
 use Prim.Native.Nat.{ℕ, suc, ◌+◌, ◌≤◌, ◌<◌}
 use native.Mathlib.Numerals.{add-one}
 use native.Mathlib.Omega.{arith}
+use lib.Dec.{eqb}
 use lib.ListN.{length, get_or, drop, drop_of_length-le}
 use lib.Seq.{drop-cons}
+use borrow.Author.Tests.{eq-eqb}
 use Rattle.commands.specs.Numbers.{longer_by, number_from, number_in}
+
+-- ---- words compared
+
+module _ (a b : List ℕ) (i : ℕ) (l : length a ≡ length b) (h : i < length a) where
+  one_byte : bytes_eq (drop i a) (drop i b) ≡ (eqb (get_or a i 0) (get_or b i 0) && bytes_eq (drop (suc i) a) (drop (suc i) b))
+  one_byte = rw (drop-cons a i 0 h, drop-cons b i 0 (omega arith))
+
+  -- one byte more is the same
+  pub same_more : bytes_eq (drop i a) (drop i b) ≡ bytes_eq a b → get_or a i 0 ≡ get_or b i 0 → bytes_eq (drop (i + 1) a) (drop (i + 1) b) ≡ bytes_eq a b
+  same_more x e = rw add-one (sym (one_byte ∙ rw (eq-eqb _ _ e)) ∙ x)
+
+-- ---- numbers from text
 
 pub no-digits : (s : List ℕ) → length s ≡ 0 → None ≡ number_in s
 unfolding number_in

@@ -1,7 +1,8 @@
 -- A losing closed walk read off rows, edge by edge: each row is for one edge fewer, and tells which edges keep the value.
 -- Assumes nothing.
-use Rattle.std.specs.Prelude.{◌≡◌, refl, Option, Some, None, IsSome, ℕ, ◌+◌, ◌*◌, ◌≤◌, ◌<◌, get_or, set, take, replicate}
-use Rattle.std.proofs.Common.{subst, take-suc-set, get_or-set_other, add-one, arith}
+use Rattle.std.specs.Prelude.{◌≡◌, refl, Option, Some, None, IsSome, unwrap_or, ℕ, ◌+◌, ◌*◌, ◌≤◌, ◌<◌, get_or, set, take, replicate}
+use Rattle.std.proofs.Common.{sym, subst, take-suc-set, get_or-set_other, add-one, arith}
+use Rattle.std.proofs.Math.Bool.{true≢false}
 use mathlib.Core.List.{List, [], ◌∷◌, ◌++◌}
 use Rattle.std.proofs.Math.ListN.{length}
 use Rattle.lists.specs.Fold.{sum_of, sum-append}
@@ -44,6 +45,11 @@ module _ (s : System) (start left : ℕ) (row : List ℕ) (node value : ℕ) (on
       go : (es : List ℕ) → Walk s.graph node es start → length es ≡ left + 1 → value + gains s es ≤ base + costs s es → ⊥
       go [] w q h = omega arith
       go (e ∷ es) w q h = n e w.0 w.1 (omega (arith, rows.over (s.graph.head e) es w.2 (omega arith)))
+
+  -- and it is an edge of the graph
+  pub edge_in : (r : Option ℕ) → NextEdge s row node value r → unwrap_or r s.graph.edges < s.graph.edges
+  edge_in (Some r) n = n.within
+  edge_in None n = absurd (true≢false (sym (edge_found None n)))
 
 -- one edge more
 pub walked_more : (s : System) (start left i : ℕ) (found row : List ℕ) (node value r : ℕ) → i < length found

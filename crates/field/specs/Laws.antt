@@ -2,7 +2,6 @@
 -- Assumes nothing.
 use Rattle.std.specs.Prelude.{◌≡◌, List, ◌⊎◌, ltb, length, Some, Ok, Err}
 use Rattle.std.proofs.Math.Path.{refl}
-use Rattle.std.proofs.Common.{ap, subst}
 use Rattle.std.proofs.Math.Bool.{true, false}
 use Rattle.std.proofs.Math.Logic.{inl, inr}
 use Prim.Native.Nat.{ℕ, ◌+◌, ◌≤◌, ◌<◌}
@@ -14,7 +13,7 @@ use Rattle.answer.specs.declared.Refusal.{Refusal}
 use Rattle.answer.specs.declared.Refusal.TheVariants as refusal
 use Rattle.field.specs.declared.Kind.{Kind}
 use Rattle.field.specs.declared.Kind.TheVariants.{Mark, Version, Count, Machine, Node, Edge, Start, Retiming}
-use Rattle.field.specs.Outcome.{Cursor, Taken, taken_in}
+use Rattle.field.specs.Outcome.{Cursor, Taken}
 use Rattle.field.specs.Number.{number_at}
 use Rattle.field.specs.Taking.{wrong_at, onward, stopped_at, taken, Took}
 
@@ -25,6 +24,29 @@ taken-refused s c width low high kind f = rw f
 
 pub taken_stopped : (s : List ℕ) (at : ℕ) (e : Refusal) (width low high : ℕ) (kind : Kind) → taken s (record { at = at; refusal = Some e }) width low high kind ≡ stopped_at at (Some e)
 taken_stopped s at e width low high kind = taken-refused s (record { at = at; refusal = Some e }) width low high kind (refused_fine e)
+
+-- each way a field goes at an offset
+module _ (s : List ℕ) (at width low high : ℕ) (kind : Kind) where
+  -- whatever stops the field stops it at its offset
+  stays : (e : Refusal) → stopped_at at (Some e) ≡ taken s (onward at) width low high kind → Took s at width low high kind (Err e)
+  stays e is = record { is = is; small = tt }
+
+  pub took-short : length s < at + width → Took s at width low high kind (Err (refusal.Short at))
+  unfolding taken pick fine
+  took-short h = stays (refusal.Short at) (rw (lt-ltb _ _ h) refl)
+
+  module _ (long : at + width ≤ length s) (v : ℕ) (v-is : v ≡ number_at width s at) where
+    pub took-low : (e : Refusal) → v < low → Some e ≡ wrong_at kind at → Took s at width low high kind (Err e)
+    unfolding taken pick fine
+    took-low e h w = stays e (rw (w, le-ltb _ _ long, ← v-is, lt-ltb _ _ h) refl)
+
+    pub took-high : (e : Refusal) → low ≤ v → high < v → Some e ≡ wrong_at kind at → Took s at width low high kind (Err e)
+    unfolding taken pick fine
+    took-high e l h w = stays e (rw (w, le-ltb _ _ long, ← v-is, le-ltb _ _ l, lt-ltb _ _ h) refl)
+
+    pub took-good : low ≤ v → v ≤ high → Took s at width low high kind (Ok v)
+    unfolding taken pick fine
+    took-good l h = record { is = rw (le-ltb _ _ long, ← v-is, le-ltb _ _ l, le-ltb _ _ h) refl; small = h }
 
 -- a field whose number is out of range, at a cursor that was fine
 pub record Outside (s : List ℕ) (c : Cursor) (width low high : ℕ) (kind : Kind) (next : Cursor) : Type 0 where

@@ -78,6 +78,9 @@ module _ (g : Loop) (p : Pair) where
     pub found : spot < spot_of p.length 4 → Found spot
     pub least : (q c : ℕ) → Seen q c → over g p q c ≡ true → spot ≤ spot_of q c
 
+  pub lowest-none : (Seen : ℕ → ℕ → Type 0) (spot : ℕ) → ((q c : ℕ) → Seen q c → ⊥) → spot_of p.length 4 ≤ spot → Lowest Seen spot
+  lowest-none Seen spot none e = record { found = λ h. absurd (omega arith); least = λ q c s. absurd (none q c s) }
+
   -- what is seen may be less
   pub lowest-fewer : (Seen Fewer : ℕ → ℕ → Type 0) (spot : ℕ) → ((q c : ℕ) → Fewer q c → Seen q c) → Lowest Seen spot → Lowest Fewer spot
   lowest-fewer Seen Fewer spot sub s = record { found = s.found; least = λ q c f. s.least q c (sub q c f) }

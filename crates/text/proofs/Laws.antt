@@ -10,6 +10,8 @@ use lib.ListN.{length, get_or, take}
 use lib.Seq.{take-suc, take_all}
 use borrow.Author.Tests.{le-ltb, lt-ltb, eq-eqb, ne_eqb}
 use Rattle.lists.specs.Pick.{pick_true, pick-false}
+use Rattle.laid.specs.Laid.{Laid}
+use Rattle.laid.specs.Laws.{both}
 use Rattle.text.specs.declared.Page.{Page}
 use Rattle.text.specs.Page.{Puts}
 use Rattle.text.specs.PageLaws.{blank, followed}
@@ -44,6 +46,13 @@ module _ (p : Page) (n : ℕ) where
   three-digits q r s a b d h ea eb ed x y z =
       rw (pick-false _ _ _ (le-ltb n 10 (omega arith)), pick-false _ _ _ (le-ltb n 100 h), ← ea, ← eb, ← ed)
       (followed p q s (a ∷ []) (b ∷ d ∷ []) x (followed q r s (b ∷ []) (d ∷ []) y z))
+
+-- ---- a word and a number
+
+-- the number is put where the word ends, and is the one that was given
+pub field_put : (l : List ℕ) (at : ℕ) (w : List ℕ) (n : ℕ) (m o : List ℕ) (e a k f : ℕ) → a ≡ e → k ≡ n
+    → Laid l at w m e → Laid m a (decimal k) o f → Laid l at (w ++ decimal n) o f
+field_put l at w n m o e a k f ea ek x y = both l at w (decimal n) m o e f x (rw (ea, ek) at y)
 
 -- ---- a retiming
 

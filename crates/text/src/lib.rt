@@ -55,7 +55,8 @@ impl<'a> Page<'a> {
             self.byte(digit(number));
             return;
         }
-        if number < 100 {
+        let few = number < 100;
+        if few {
             self.byte(digit(number / 10));
             self.byte(digit(number % 10));
             return;

@@ -1,6 +1,5 @@
 -- `text::Page::word` meets its contract: the loop's invariant is that its first bytes are put.
 -- Assumes nothing.
-use mathlib.Core.Path.{◌≡◌}
 use lib.ListN.{take}
 use Rattle.text.specs.Page.{Puts}
 use Rattle.text.proofs.Page.word.Given as goal
