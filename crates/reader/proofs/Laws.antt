@@ -25,7 +25,7 @@ use Rattle.form.specs.Places.{no_class, no_node, empty_form, with_header, with_c
 use Rattle.form.specs.Offsets.{nodes_at, edges_at, starts_at}
 use Rattle.reader.specs.declared.EdgeTable.{EdgeTable}
 use Rattle.reader.specs.declared.StartTable.{StartTable}
-use Rattle.reader.specs.Tables.{header_of, table, class_step, node_step, edge_step, start_step, reading, Staged, TableRead, ClassesRead, NodesRead, EdgesRead, StartsRead, no_edges, with_edge_rows, no_starts, with_start_rows}
+use Rattle.reader.specs.Tables.{header_of, table, class_step, node_step, edge_step, start_step, reading, Few, Staged, TableRead, ClassesRead, NodesRead, EdgesRead, StartsRead, no_edges, with_edge_rows, no_starts, with_start_rows}
 use Rattle.reader.specs.Reading.{classes_read, nodes_read, edges_read, starts_read, TablesRead, zero_from, some_zero}
 
 -- an array of structs as a field: its length, from what owning the struct tells
@@ -151,6 +151,24 @@ module _ (s : List ℕ) (h : Header) (eh : reading (counted h) 11 ≡ header_of 
             let P : ℕ → Type 0 = λ m. StartsRead s (starts_at h) h.length k v m r → Staged (λ x. reading (placed h k v g x) (starts_at h + 3 * m)) (starts_read s) r in
             subst P (sym en) (λ t.
             staged (start_step s) scheduled 3 (starts_at h) (placed h k v g) no_starts (edges_read s) (edges-staged (Ok g) gs) r (t (edged h k v g) refl refl refl))
+
+        -- all tables read are what the definition reads
+        pub whole-read : (x : StartTable) → StartsRead s (starts_at h) h.length k v n (Ok x) → reading (placed h k v g x) (starts_at h + 3 * n) ≡ starts_read s
+        whole-read x xs = starts-staged (Ok x) xs
+
+-- how far the tables reach
+module _ (h : Header) (few : Few h) where
+  pub classes-end : nodes_at h ≤ 23
+  classes-end = omega (arith, few.classes)
+
+  pub nodes-end : edges_at h ≤ 407
+  nodes-end = omega (arith, few.classes, few.nodes)
+
+  pub edges-end : starts_at h ≤ 1175
+  edges-end = omega (arith, few.classes, few.nodes, few.edges)
+
+  pub starts-end : (n : ℕ) → n ≤ h.nodes → starts_at h + 3 * n ≤ 1367
+  starts-end n l = omega (arith, few.classes, few.nodes, few.edges)
 
 -- ---- looking for a retiming 0
 

@@ -1,13 +1,14 @@
 -- What an entry point is refused: what the reader refuses, else what is asked of the form that was read.
 -- Assumes nothing.
-use Rattle.std.specs.Prelude.{◌≡◌, true, false, List, ℕ}
+use Rattle.std.specs.Prelude.{◌≡◌, true, false, List, ℕ, Result}
 use Rattle.std.proofs.Common.{subst}
 use Rattle.lists.specs.Pick.{pick, pick_ind, pick_true, pick-false, both_ways}
 use Rattle.answer.specs.Refused.{Verdict, fine}
+use Rattle.answer.specs.declared.Refusal.{Refusal}
 use Rattle.form.specs.declared.Form.{Form}
 use Rattle.form.specs.Ranges.{WellFormed}
 use Rattle.field.specs.Number.{Bytes}
-use Rattle.reader.specs.Outcome.{Record}
+use Rattle.reader.specs.Outcome.{Record, record_in}
 use Rattle.reader.specs.Reading.{read_form}
 use Rattle.record.specs.Held.{Held}
 use Rattle.record.specs.Read.{read-well-formed}
@@ -15,6 +16,10 @@ use Rattle.record.specs.ReadHeld.{read_held}
 
 unfoldable pub read_first : List ℕ → (Form → Verdict) → Verdict
 read_first s ask = pick (fine (read_form s).refusal) (ask (read_form s).form) (read_form s).refusal
+
+-- what reading answered, as an arm of a match on it has it
+pub read-as : (s : List ℕ) (r x : Result Form Refusal) → r ≡ x → record_in r ≡ read_form s → record_in x ≡ read_form s
+read-as s r x e = subst (λ (y : Result Form Refusal). record_in y ≡ read_form s) e
 
 -- what an entry point has of a record that was read: a form in its ranges, which alone is asked
 pub record WellRead (s : List ℕ) (r : Record) : Type 0 where

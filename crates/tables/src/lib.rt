@@ -22,9 +22,9 @@ pub struct Timetable {
 }
 
 // The form's timetable; 0 past the nodes.
-pub fn times_of(form: Form) -> Timetable
-    requires { WellFormed form }
-    ensures { result ≡ times_of form }
+pub fn times_of(form: &Form) -> Timetable
+    requires { WellFormed form.now }
+    ensures { result ≡ times_of form.now }
 {
     // tables of its own: to index the form's would copy all of it first
     let class = form.class;

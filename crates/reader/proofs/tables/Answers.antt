@@ -13,24 +13,31 @@ pub returns-in_err-class : goal.returns-in_err-class
 returns-in_err-class c =
     rw (err-is _ _ c.from_residual-in_err-class.ensures.1) (classes-refused _ _ (classes-staged _ _ c.in_ok-header.ensures.is (Err _) c.in_err-class.ensures))
 
-pub returns-in_err-node : goal.returns-in_err-node
-returns-in_err-node c =
-    rw (err-is _ _ c.from_residual-in_err-node.ensures.1)
-    (nodes-refused _ _ (nodes-staged _ _ c.in_ok-header.ensures.is _ c.in_ok-class.ensures (Err _) c.in_err-node.ensures))
+pub returns-in-Err : goal.returns-in-Err
+returns-in-Err c =
+    let told = rw c.in-Err.is at c.nodes.ensures in
+    nodes-refused _ _ (nodes-staged _ _ c.in_ok-header.ensures.is _ c.in_ok-class.ensures (Err _) told)
 
-pub returns-in_err-from : goal.returns-in_err-from
-returns-in_err-from c =
-    rw (err-is _ _ c.from_residual-in_err-from.ensures.1)
-    (edges-refused _ _ (edges-staged _ _ c.in_ok-header.ensures.is _ c.in_ok-class.ensures _ c.in_ok-node.ensures (Err _) c.in_err-from.ensures))
+pub returns-in-Err-edges : goal.returns-in-Err-edges
+returns-in-Err-edges c =
+    let nodes = rw c.in-Ok.is at c.nodes.ensures in
+    let told = rw c.in-Err-edges.is at c.edges.ensures in
+    edges-refused _ _ (edges-staged _ _ c.in_ok-header.ensures.is _ c.in_ok-class.ensures _ nodes (Err _) told)
 
-pub returns-in_err-start : goal.returns-in_err-start
-returns-in_err-start c =
-    rw (err-is _ _ c.from_residual-in_err-start.ensures.1)
-    (starts-refused _ _ (starts-staged _ _ c.in_ok-header.ensures.is _ c.in_ok-class.ensures _ c.in_ok-node.ensures _ c.in_ok-from.ensures _ c.scheduled_nodes-scheduled.ensures.0 (Err _) c.in_err-start.ensures))
+pub returns-in-Err-starts : goal.returns-in-Err-starts
+returns-in-Err-starts c =
+    let nodes = rw c.in-Ok.is at c.nodes.ensures in
+    let edges = rw c.in-Ok-edges.is at c.edges.ensures in
+    let told = rw c.in-Err-starts.is at c.starts.ensures in
+    starts-refused _ _ (starts-staged _ _ c.in_ok-header.ensures.is _ c.in_ok-class.ensures _ nodes _ edges _ c.scheduled_nodes-scheduled.ensures.0 (Err _) told)
 
 pub returns : goal.returns
-returns c = record {
-  is = starts-staged _ _ c.in_ok-header.ensures.is _ c.in_ok-class.ensures _ c.in_ok-node.ensures _ c.in_ok-from.ensures _ c.scheduled_nodes-scheduled.ensures.0 (Ok c.in_ok-start.field-0) c.in_ok-start.ensures;
-  few = c.in_ok-header.ensures.few;
-  near = omega (arith, c.in_ok-header.ensures.few.classes, c.in_ok-header.ensures.few.nodes, c.in_ok-header.ensures.few.edges);
-}
+returns c =
+    let nodes = rw c.in-Ok.is at c.nodes.ensures in
+    let edges = rw c.in-Ok-edges.is at c.edges.ensures in
+    let starts = rw c.in-Ok-starts.is at c.starts.ensures in
+    record {
+      is = starts-staged _ _ c.in_ok-header.ensures.is _ c.in_ok-class.ensures _ nodes _ edges _ c.scheduled_nodes-scheduled.ensures.0 (Ok c.in-Ok-starts.table) starts;
+      few = c.in_ok-header.ensures.few;
+      near = omega (arith, c.in_ok-header.ensures.few.classes, c.in_ok-header.ensures.few.nodes, c.in_ok-header.ensures.few.edges);
+    }
