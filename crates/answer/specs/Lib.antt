@@ -1,3 +1,4 @@
 pub mod Refused
 pub mod Outcome
+pub mod Handed
 pub mod Tally

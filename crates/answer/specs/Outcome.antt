@@ -6,7 +6,6 @@ use Rattle.lists.specs.Pick.{pick}
 use Rattle.lists.specs.Span.{span}
 use Rattle.answer.specs.Refused.{Verdict, number_of, fine, details_of}
 use Rattle.answer.specs.declared.Refusal.{Refusal}
-use Rattle.answer.specs.declared.Refused.{Refused}
 use Rattle.answer.specs.declared.Details.{Details}
 use Rattle.answer.specs.declared.Cycle.{Cycle}
 
@@ -22,19 +21,10 @@ abbrev pub cycle_or : Option Cycle → Cycle
 cycle_or None = no_cycle
 cycle_or (Some c) = c
 
--- what an outcome refuses, if anything, and the cycle handed over with it
-module _ {T : Type 0} where
-  abbrev pub refusal_in : Result T Refusal → Verdict
-  refusal_in (Ok value) = None
-  refusal_in (Err refusal) = Some refusal
-
-  abbrev pub refused_in : Result T Refused → Verdict
-  refused_in (Ok value) = None
-  refused_in (Err e) = Some e.refusal
-
-  abbrev pub handed_in : Result T Refused → Cycle
-  handed_in (Ok value) = no_cycle
-  handed_in (Err e) = cycle_or e.cycle
+-- what an outcome refuses, if anything
+abbrev pub refusal_in : {T : Type 0} → Result T Refusal → Verdict
+refusal_in (Ok value) = None
+refusal_in (Err refusal) = Some refusal
 
 -- the error that `?` hands on
 pub err-is : {T E : Type 0} (r : Result T E) (e : E) → IsErrAnd r (λ x. x ≡ e) → r ≡ Err e

@@ -1,7 +1,8 @@
 // What comes back: the refusals of the scope's table, their numbers and details, and cycles.
 #![tactic(auto)]
 
-ghost use Rattle.std.specs.Prelude.{◌≡◌, ltb, None, Some};
+ghost use Rattle.std.specs.Prelude.{◌≡◌, ◌<◌, ltb, None, Some};
+ghost use Rattle.std.specs.Option.{ForSome};
 ghost use Rattle.std.proofs.lemmas.List.Edits.{sets};
 ghost use Rattle.lists.specs.Pick.{pick};
 ghost use Rattle.answer.specs.Refused.{Verdict, number_of, details_of, details};
@@ -38,6 +39,7 @@ pub enum Refusal {
 pub struct Refused {
     pub refusal: Refusal,
     pub cycle: Option<Cycle>,
+    ghost handed: { ForSome cycle (λ c. 0 < c.count) },
 }
 
 // A refusal's details, or an answer's numbers; 0 where there are fewer.
@@ -113,7 +115,7 @@ impl Refusal {
 
 // A refusal that no cycle stands beside.
 impl From<Refusal> for Refused {
-    ghost from_gives = { λ r e. e ≡ record { refusal = r; cycle = None } };
+    ghost from_gives = { λ r e. (e.refusal ≡ r) × (e.cycle ≡ None) };
 
     fn from(refusal: Refusal) -> Refused {
         Refused {
@@ -189,12 +191,12 @@ pub fn tell(answer: &mut [u32; 69], numbers: Details, cycle: Option<Cycle>) -> u
     number
 }
 
-// A refusal as others link it: its number, its details, and the cycle that proves it.
-pub fn refuse(answer: &mut [u32; 69], refused: Refused) -> u32
-    ensures number { result ≡ number_of (Some refused.refusal) }
-    ensures all { (numbers : Details) → answer.new ≡ answer_list (Some refused.refusal) numbers (cycle_or refused.cycle) }
+// A refusal as others link it: its number, its details, and the cycle that proves it, if one does.
+pub fn refuse(answer: &mut [u32; 69], refusal: Refusal, cycle: Option<Cycle>) -> u32
+    ensures number { result ≡ number_of (Some refusal) }
+    ensures all { (numbers : Details) → answer.new ≡ answer_list (Some refusal) numbers (cycle_or cycle) }
 {
-    let number = refused.refusal.number();
-    lay(answer, number, refused.refusal.details(), refused.cycle);
+    let number = refusal.number();
+    lay(answer, number, refusal.details(), cycle);
     number
 }

@@ -309,7 +309,7 @@ pub fn draw(record: &[u8], out: &mut [u8]) -> Option<u32>
     let Ok(form) = reader::read(record) else {
         return None;
     };
-    let times = tables::times_of(form);
+    let times = tables::times_of(&form);
     // into no room: the size alone
     let size = put_table(&mut out[..0], &times);
     if out.len() < size {

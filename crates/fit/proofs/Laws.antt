@@ -1,20 +1,30 @@
--- What the proofs of the fit share: tables filled place by place, and the top of values as a fold.
+-- What the proofs of the fit share: how late an edge is, tables filled place by place, and the top of values as a fold.
 -- Assumes nothing.
 use Rattle.std.specs.Prelude.{fold}
 use mathlib.Core.Path.{◌≡◌, sym, ◌∙◌}
 use mathlib.Core.List.{List, [], ◌∷◌}
 use Prim.Native.Nat.{ℕ, ◌+◌, ◌-◌, ◌/◌, ◌≤◌, ◌<◌, max}
-use native.Mathlib.Nat.{not-suc-le-zero}
+use native.Mathlib.Nat.{div-eq_of_lt}
 use native.Mathlib.Omega.{arith}
 use lib.ListN.{length, get_or, set}
 use Rattle.lists.specs.Place.{filled_more}
 use Rattle.lists.specs.Fold.{top}
+use Rattle.lists.specs.Quotient.{divided}
 use Rattle.legal.specs.Loop.{Loop, Pair}
 use Rattle.tables.specs.declared.Timetable.{Timetable}
 use Rattle.tables.specs.Edges.{Ends, Told}
 use Rattle.tables.specs.Times.{Timed}
 use Rattle.legal.specs.Systems.{lateness}
 use Rattle.fit.specs.Tables.{Limited}
+
+-- ---- how late an edge is, as the code computes it
+
+module _ (l f x : ℕ) (one : 1 ≤ x) (to : x ≤ l) where
+  pub late-none : f ≤ x → 0 ≡ (f + (l - 1) - x) / l
+  late-none h = sym (div-eq_of_lt {n = f + (l - 1) - x} {m = l} (omega arith))
+
+  pub late-one : x < f → f ≤ x + l → 1 ≡ (f + (l - 1) - x) / l
+  late-one h k = sym (divided 1 l (f - 1 - x) (f + (l - 1) - x) (omega arith) (omega arith)).0
 
 -- ---- the limits
 

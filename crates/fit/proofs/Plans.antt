@@ -1,11 +1,11 @@
 -- The ways that a fit of a form goes: Bare, a knot, no retiming, and the form with the retiming that fits.
 -- Assumes nothing.
 use Rattle.std.specs.Prelude.{None, Some, Result, Ok, Err, IsErrAnd, MatchResult}
-use mathlib.Core.Path.{◌≡◌, refl, sym, ap, ◌∙◌}
-use mathlib.Core.Bool.{true, false}
+use mathlib.Core.Path.{◌≡◌, refl, sym, ap, subst, ◌∙◌}
+use mathlib.Core.Bool.{true}
 use mathlib.Core.Logic.{◌≢◌, ◌⊎◌}
 use mathlib.Core.List.{List}
-use Prim.Native.Nat.{ℕ, ◌≤◌, ◌<◌}
+use Prim.Native.Nat.{ℕ}
 use native.Mathlib.Omega.{arith}
 use borrow.Author.Tests.{eq-eqb, ne_eqb}
 use lib.Dec.{eqb, leb}
@@ -15,7 +15,7 @@ use Rattle.answer.specs.Outcome.{no_cycle, cycle_or}
 use Rattle.answer.specs.declared.Refusal.{Refusal}
 use Rattle.answer.specs.declared.Refused.{Refused}
 use Rattle.answer.specs.declared.Cycle.{Cycle}
-use Rattle.answer.specs.declared.Refusal.TheVariants.{Bare, Knot, NoRetiming, Room}
+use Rattle.answer.specs.declared.Refusal.TheVariants.{Bare, NoRetiming, Room}
 use Rattle.form.specs.declared.Form.{Form}
 use Rattle.form.specs.Ranges.{WellFormed}
 use Rattle.writer.specs.Writing.{refusal_of}
@@ -28,7 +28,7 @@ use Rattle.legal.specs.Handed.{handed-none, handed-knot}
 use Rattle.tables.specs.declared.Timetable.{Timetable}
 use Rattle.tables.specs.Times.{times_of}
 use Rattle.knots.specs.Found.{KnotFound, Untied}
-use Rattle.plans.specs.Outcome.{plan_in}
+use Rattle.plans.specs.Outcome.{Plan, plan_in}
 use Rattle.plans.specs.Pairs.{with_pair, with_times, times_with, SameButPair}
 use Rattle.plans.specs.Scheduling.{Planned, unturned}
 use Rattle.fit.specs.Outcome.{fitting_in}
@@ -47,14 +47,14 @@ retimed f same u is rs =
     ap (λ (x : Timetable). with_pair f x.start x.length rs) is ∙ ap (λ (g : Form). with_retiming g rs) (sym same)
 
 module _ (f : Form) (u : Timetable) where
-  pub plan-bare : f.header.length ≡ 0 → Planned fit_of fitted_form unturned f (record { refusal = Some Bare; rotations = 0; cycle = no_cycle; times = u })
+  pub plan-bare : f.header.length ≡ 0 → (y : Plan) → y ≡ record { refusal = Some Bare; rotations = 0; cycle = no_cycle; times = u } → Planned fit_of fitted_form unturned f y
   unfolding fit_of fine
-  plan-bare z = record {
+  plan-bare z y is = subst (Planned fit_of fitted_form unturned f) (sym is) (record {
     refusal = sym (pick_true (eqb f.header.length 0) _ _ (eq-eqb _ _ z));
     form = λ q. both_ways q refl;
     rotations = λ q. refl;
     handed = handed-none (loop_of f) (pair_of f) (Some Bare) no_cycle (omega arith) (omega arith) refl;
-  }
+  })
 
   module _ (n : f.header.length ≢ 0) where
     pub plan-knot : (e : Refused) → Untied (loop_of f) (Err e) → Planned fit_of fitted_form unturned f (plan_in u (Err e))
@@ -88,9 +88,9 @@ module _ (f : Form) (u : Timetable) where
         };
       }
 
-      pub plan-unfit : (t : Result (List ℕ) Cycle) → StartsFitted (loop_of f) (pair_of f) (fitting_in t) → (e : Refused) → (c : Cycle) × (t ≡ Err c) × (e ≡ record { refusal = NoRetiming; cycle = Some c })
+      pub plan-unfit : (t : Result (List ℕ) Cycle) → StartsFitted (loop_of f) (pair_of f) (fitting_in t) → (e : Refused) → (c : Cycle) × (t ≡ Err c) × (e.refusal ≡ NoRetiming) × (e.cycle ≡ Some c)
           → Planned fit_of fitted_form unturned f (plan_in u (Err e))
-      plan-unfit t s e told = rw told.2 (unfitting told.0 (rw told.1 at s))
+      plan-unfit t s e told = rw (told.2, told.3) (unfitting told.0 (rw told.1 at s))
 
       module _ (rs : List ℕ) (s : StartsFitted (loop_of f) (pair_of f) (fitting_in (Ok rs))) where
         by-units : fit_of f ≡ units_of (loop_of f) (pair_of f)
@@ -120,11 +120,11 @@ module _ (f : Form) (u : Timetable) where
 
 -- what a refusal made of the cycle comes from
 abbrev pub Unfit : Result (List ℕ) Cycle → Result (List ℕ) Refused → Type 0
-Unfit t r = MatchResult t (λ rs. r ≡ Ok rs) (λ c. IsErrAnd r (λ e. e ≡ record { refusal = NoRetiming; cycle = Some c }))
+Unfit t r = MatchResult t (λ rs. r ≡ Ok rs) (λ c. IsErrAnd r (λ e. (e.refusal ≡ NoRetiming) × (e.cycle ≡ Some c)))
 
-pub unfit-from : (t : Result (List ℕ) Cycle) (e : Refused) → Unfit t (Err e) → (c : Cycle) × (t ≡ Err c) × (e ≡ record { refusal = NoRetiming; cycle = Some c })
+pub unfit-from : (t : Result (List ℕ) Cycle) (e : Refused) → Unfit t (Err e) → (c : Cycle) × (t ≡ Err c) × (e.refusal ≡ NoRetiming) × (e.cycle ≡ Some c)
 unfit-from (Ok rs) e m = absurd cc
-unfit-from (Err c) e m = (c, refl, m)
+unfit-from (Err c) e m = (c, refl, m.0, m.1)
 
 pub fit-from : (t : Result (List ℕ) Cycle) (rs : List ℕ) → Unfit t (Ok rs) → t ≡ Ok rs
 fit-from (Ok x) rs m = let same : x ≡ rs = cc in ap Ok same

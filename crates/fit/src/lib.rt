@@ -107,7 +107,10 @@ fn fit_limits(nodes: u8, edges: Edges, limits: Limits) -> Result<[u8; 64], Cycle
         gains: &limits.gains,
         costs: &limits.costs,
     };
-    let values = solve::solve(system)?;
+    let values = match solve::solve(system) {
+        Ok(values) => values,
+        Err(refuted) => return Err(refuted.cycle),
+    };
     let highest = top_of(&values, nodes);
     Ok(turned(&values, nodes, highest))
 }
@@ -124,7 +127,8 @@ pub fn fit_starts(edges: Edges, times: Timetable) -> Result<[u8; 64], Cycle>
 
 // The refusal of starts that no retiming fits.
 fn unfit(cycle: Cycle) -> Refused
-    ensures { result ≡ record { refusal = NoRetiming; cycle = Some cycle } }
+    requires { 0 < cycle.count }
+    ensures { (result.refusal ≡ NoRetiming) × (result.cycle ≡ Some cycle) }
 {
     Refused {
         refusal: Refusal::NoRetiming,
@@ -153,7 +157,11 @@ fn plan_tables(edges: Edges, times: Timetable) -> Result<Turned, Refused>
 pub fn fit(record: &[u8], out: &mut [u8]) -> Result<Rewritten, Refused>
     ensures { RecordFitted «record».now out.old out.new (scheduled_in result) }
 {
-    let form = reader::read(record)?;
-    let plan = plan_tables(form.edges(), tables::times_of(form))?;
-    plans::write_plan(form, plan, out)
+    match &reader::read(record) {
+        Ok(form) => {
+            let plan = plan_tables(form.edges(), tables::times_of(form))?;
+            plans::write_plan(*form, plan, out)
+        }
+        Err(refusal) => Err((*refusal).into()),
+    }
 }

@@ -173,7 +173,7 @@ floored-knot f e u =
 -- ---- a record
 
 -- refused by the reader
-pub record-refused : (s : List ℕ) (r : Refusal) → record_in (Err r) ≡ read_form s → RecordFloored s (floored_in (Err (record { refusal = r; cycle = None })))
+pub record-refused : (s : List ℕ) (r : Refusal) → record_in (Err r) ≡ read_form s → RecordFloored s (record { refusal = Some r; floor = 0; part = part.None; cycle = no_cycle })
 unfolding floor_record
 record-refused s r back =
     let unfit : fine (Some r) ≡ false = refused_fine r in
@@ -194,3 +194,7 @@ record-floored s f j back t = record {
   part = rw (← back) t.part;
   cycle = rw (← back) t.cycle;
 }
+
+-- refused by the reader, as the arm that hands it on has it
+pub record-unread : (s : List ℕ) (e : Refused) (r : Refusal) → (e.refusal ≡ r) × (e.cycle ≡ None) → record_in (Err r) ≡ read_form s → RecordFloored s (floored_in (Err e))
+record-unread s e r told back = rw (told.0, told.1) (record-refused s r back)

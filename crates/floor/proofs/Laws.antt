@@ -1,7 +1,6 @@
 -- What the proofs of the floor share: tables that are counted and compared one place more, and the system that they hold.
 -- Assumes nothing.
-use Rattle.std.specs.Prelude.{Result, Ok, Err, is_ok, IsSomeAnd}
-use Rattle.std.specs.Result.{result_err}
+use Rattle.std.specs.Prelude.{Result, Ok, Err, is_ok}
 use mathlib.Core.Path.{◌≡◌, refl, sym, ap, ◌∙◌}
 use mathlib.Core.Bool.{false}
 use mathlib.Core.List.{List}
@@ -12,14 +11,13 @@ use native.Mathlib.Omega.{arith}
 use lib.Dec.{eqb}
 use lib.ListN.{get_or}
 use borrow.Author.Tests.{eq-eqb, ne_eqb}
-use Rattle.lists.specs.Pick.{pick, pick_true, pick-false, both_ways}
+use Rattle.lists.specs.Pick.{pick, pick_true, pick-false}
 use Rattle.lists.specs.Span.{span}
 use Rattle.lists.specs.Fold.{count, count-snoc}
 use Rattle.lists.specs.Count.{count_same}
 use Rattle.lists.specs.Sums.{top-none, top-last, top-each}
 use Rattle.answer.specs.Outcome.{edges_of}
 use Rattle.answer.specs.Tally.{Tallies}
-use Rattle.answer.specs.declared.Cycle.{Cycle}
 use Rattle.form.specs.declared.Edges.{Edges}
 use Rattle.form.specs.declared.Form.{Form}
 use Rattle.form.specs.declared.Class.{Class}
@@ -29,7 +27,8 @@ use Rattle.system.specs.Graph.{Joined}
 use Rattle.system.specs.System.{System, Losing, system_of}
 use Rattle.system.specs.Rounds.{settled_of}
 use Rattle.system.specs.Same.{Same, same-settled, same-losing}
-use Rattle.solve.specs.Solved.{SolvedBy}
+use Rattle.solve.specs.Outcome.{Solution}
+use Rattle.solve.specs.Solved.{Solved}
 use Rattle.form.specs.Hold.{hold}
 use Rattle.legal.specs.Loop.{Loop, Pair, graph_of, loop_of, ran_on}
 use Rattle.legal.specs.Systems.{knotted, paces}
@@ -37,7 +36,7 @@ use Rattle.legal.specs.Shape.{sound-form}
 use Rattle.tables.specs.declared.Timetable.{Timetable}
 use Rattle.tables.specs.Edges.{ToldBy}
 use Rattle.tables.specs.Times.{Timed}
-use Rattle.tables.specs.Lent.{Lent, LentBy, lent-ends}
+use Rattle.tables.specs.Lent.{LentBy, lent-ends}
 use Rattle.floor.specs.Parts.{nodes_on, units_part}
 use Rattle.floor.specs.Least.{enough}
 use Rattle.floor.specs.Tables.{how_many, Edged, Costed, EdgedIn, PacedBy, held_in, Busy}
@@ -140,9 +139,10 @@ module _ (n : ℕ) (e : Edges) (edged : EdgedIn n e) (gs cs : List ℕ) (s : Sys
     held-enough (Err values) is = ap (λ (x : Settled). x.settled) is ∙ settled-alike
 
     -- else a cycle loses
-    pub held-breaks : (r : Result (List ℕ) Cycle) → SolvedBy s r → enough g l ≡ false → IsSomeAnd (result_err r) (λ c. Losing (paces g l) (edges_of c) × Tallies c)
-    held-breaks (Ok values) t q = both_ways (sym (t.settled ∙ settled-alike)) q
-    held-breaks (Err cycle) t q = (same-losing s (paces g l) held-paces _ (t.shortest refl).losing, t.tallies)
+    pub held-breaks : (r : Solution) → Solved s r → enough g l ≡ false → (r.settled ≡ false) × Losing (paces g l) (edges_of r.cycle) × Tallies r.cycle
+    held-breaks r t q =
+        let is : r.settled ≡ false = t.settled ∙ settled-alike ∙ q in
+        (is, same-losing s (paces g l) held-paces _ (t.shortest is).losing, t.tallies)
 
 -- ---- the edges of a form
 

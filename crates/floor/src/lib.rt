@@ -199,7 +199,10 @@ fn breaking_cycle(nodes: u8, edges: Edges, costs: &[u16; 256], length: u16) -> O
     ensures { (g : Loop) → ToldBy g nodes edges.entry → Costed g edges.entry.count costs.now → enough g length ≡ false → IsSomeAnd result (λ c. Losing (paces g length) (edges_of c) × Tallies c) }
 {
     let gains = gains_of(edges.count, edges.delays, length);
-    solve::solve(paced(nodes, edges, &gains, costs)).err()
+    match solve::solve(paced(nodes, edges, &gains, costs)) {
+        Ok(_) => None,
+        Err(refuted) => Some(refuted.cycle),
+    }
 }
 
 // Parts (a) and (b) of a loop without a knot, and the floor: the larger of them where that is enough for every cycle.
@@ -258,6 +261,8 @@ pub fn floor_tables(edges: Edges, times: Timetable) -> Result<Attained, Refused>
 pub fn floor(record: &[u8]) -> Result<Attained, Refused>
     ensures { RecordFloored «record».now (floored_in result) }
 {
-    let form = reader::read(record)?;
-    floor_tables(form.edges(), tables::times_of(form))
+    match &reader::read(record) {
+        Ok(form) => floor_tables(form.edges(), tables::times_of(form)),
+        Err(refusal) => Err((*refusal).into()),
+    }
 }

@@ -10,13 +10,13 @@ use native.Mathlib.Omega.{arith}
 use borrow.Author.Tests.{lt-ltb, le-ltb, eq-eqb, ne_eqb}
 use lib.Dec.{leb, ltb, eqb}
 use Rattle.lists.specs.Pick.{pick_ind, pick_true, pick-false}
-use Rattle.answer.specs.Refused.{Verdict, number_of, fine}
+use Rattle.answer.specs.Refused.{Verdict, number_of, fine, refused_fine}
 use Rattle.answer.specs.Outcome.{no_cycle}
 use Rattle.answer.specs.declared.Refusal.{Refusal}
 use Rattle.answer.specs.declared.Refused.{Refused}
 use Rattle.answer.specs.declared.Refusal.TheVariants.{Bare, Knot, Dependence}
 use Rattle.form.specs.declared.Form.{Form}
-use Rattle.reader.specs.Outcome.{Record}
+use Rattle.reader.specs.Outcome.{Record, record_in}
 use Rattle.reader.specs.Reading.{read_form}
 use Rattle.record.specs.Early.{read-early}
 use Rattle.record.specs.ReadFirst.{first-refused, first-asked}
@@ -54,8 +54,8 @@ rules-plain g p =
     (λ l. record { unknotted = omega arith; fitting = omega arith }))
 
 -- a refusal with no cycle beside it, as the definitions speak of it
-pub told-alone : (e : Refused) (r : Refusal) → e ≡ record { refusal = r; cycle = None } → judged_in (Err e) ≡ record { refusal = Some r; cycle = no_cycle }
-told-alone e r is = rw is refl
+pub told-alone : (e : Refused) (r : Refusal) → (e.refusal ≡ r) × (e.cycle ≡ None) → judged_in (Err e) ≡ record { refusal = Some r; cycle = no_cycle }
+told-alone e r is = rw (is.0, is.1) refl
 
 module _ (f : Form) where
   judged-alone : (r : Verdict) → Plain r → r ≡ judge_of f → Judgement f (record { refusal = r; cycle = no_cycle })
@@ -99,3 +99,7 @@ module _ (s : List ℕ) (r : Record) (back : r ≡ read_form s) where
     refusal = t.refusal ∙ sym (first-asked s r back judge_of f);
     handed = rw (← back) t.handed;
   }
+
+-- refused by the reader, as the arm that hands it on has it
+pub record-unread : (s : List ℕ) (e : Refused) (r : Refusal) → (e.refusal ≡ r) × (e.cycle ≡ None) → record_in (Err r) ≡ read_form s → RecordJudgement s (judged_in (Err e))
+record-unread s e r told back = rw (told.0, told.1) (record-refused s _ back (refused_fine r))

@@ -30,6 +30,8 @@ pub fn judge_tables(edges: Edges, times: Timetable) -> Result<(), Refused>
 pub fn judge(record: &[u8]) -> Result<(), Refused>
     ensures { RecordJudgement «record».now (judged_in result) }
 {
-    let form = reader::read(record)?;
-    judge_tables(form.edges(), tables::times_of(form))
+    match &reader::read(record) {
+        Ok(form) => judge_tables(form.edges(), tables::times_of(form)),
+        Err(refusal) => Err((*refusal).into()),
+    }
 }

@@ -6,8 +6,6 @@ use mathlib.Core.List.{List}
 use Prim.Native.Nat.{ℕ, zero, suc, ◌*◌, ◌<◌}
 use native.Mathlib.Omega.{arith}
 use lib.ListN.{get_or, replicate}
-use Rattle.std.specs.Prelude.{Result, Ok, Err}
-use Rattle.knots.specs.Outcome.{ranking_in}
 use borrow.Author.Tests.{not-false}
 use Rattle.answer.specs.declared.Cycle.{Cycle}
 use Rattle.system.specs.Graph.{Joined}
@@ -16,7 +14,7 @@ use Rattle.system.specs.Same.{Same, same-settled, same-losing}
 use Rattle.system.specs.Rounds.{settled_of}
 use Rattle.system.specs.Laws.{settled-solves}
 use Rattle.system.specs.Outcome.{Settled}
-use Rattle.solve.specs.Solved.{Solved, SolvedBy}
+use Rattle.solve.specs.Solved.{Solved}
 use Rattle.solve.specs.Outcome.{Solution}
 use Rattle.legal.specs.Loop.{Loop}
 use Rattle.legal.specs.Systems.{knots, knotted}
@@ -82,15 +80,14 @@ module _ (nodes edges : ℕ) (from to delays : List ℕ) (ends : Ends nodes edge
           tallies = t.tallies;
         }
 
-    -- and where there is none, the values rise along every edge of delay 0
-    pub ranks-found : (r : Result (List ℕ) Cycle) → SolvedBy priced r → RanksFound g (ranking_in g r)
+    -- its values are those of the system of knots, and where there is no knot they rise along every edge of delay 0
+    pub ranks-found : (r : Solution) → Solved priced r → RanksFound g (record { cycle = r.cycle; rank = r.values })
     unfolding knotted knots
-    ranks-found (Ok values) t =
-        let f = knot-found _ t in
-        let same : values ≡ (settled_of (knots g)).values = t.values ∙ ap (λ (x : Settled). x.values) (same-settled priced (knots g) held-knots) in
+    ranks-found r t =
+        let f = knot-found r t in
+        let same : r.values ≡ (settled_of (knots g)).values = t.values ∙ ap (λ (x : Settled). x.values) (same-settled priced (knots g) held-knots) in
         record {
           found = f;
           ranks = same;
           rises = λ z e l d. rw same (omega (arith, settled-solves (knots g) (not-false _ (f.free z)) e l, d));
         }
-    ranks-found (Err knot) t = record { found = knot-found _ t; ranks = refl; rises = λ z. absurd (omega (arith, z, t.some refl)) }

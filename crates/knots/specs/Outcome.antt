@@ -3,16 +3,13 @@
 use Rattle.std.specs.Prelude.{List, ℕ, Result, Ok, Err}
 use Rattle.answer.specs.declared.Cycle.{Cycle}
 use Rattle.answer.specs.Outcome.{no_cycle}
-use Rattle.system.specs.Rounds.{settled_of}
-use Rattle.legal.specs.Loop.{Loop}
-use Rattle.legal.specs.Systems.{knots}
+use Rattle.knots.specs.declared.Tied.{Tied}
 
--- a knot, or no cycle and then a rank for each node
+-- a knot, or no cycle and then a rank for each node; beside a knot the values of its system
 pub record Ranking : Type 0 where
   pub cycle : Cycle
   pub rank : List ℕ
 
--- of a loop with a knot no ranks are told
-abbrev pub ranking_in : Loop → Result (List ℕ) Cycle → Ranking
-ranking_in g (Ok rank) = record { cycle = no_cycle; rank = rank }
-ranking_in g (Err knot) = record { cycle = knot; rank = (settled_of (knots g)).values }
+abbrev pub ranking_in : Result (List ℕ) Tied → Ranking
+ranking_in (Ok rank) = record { cycle = no_cycle; rank = rank }
+ranking_in (Err tied) = record { cycle = tied.knot; rank = tied.ranks }

@@ -2,12 +2,11 @@
 -- Assumes nothing.
 use Rattle.std.specs.Prelude.{Ok, Err, None, Some}
 use mathlib.Core.Path.{◌≡◌, refl, sym, ◌∙◌}
-use mathlib.Core.Bool.{true, false}
 use mathlib.Core.List.{List}
 use Prim.Native.Nat.{ℕ, ◌≤◌}
 use native.Mathlib.Omega.{arith}
 use Rattle.lists.specs.Pick.{pick, pick-false}
-use Rattle.answer.specs.Refused.{Verdict, number_of, fine, refused_fine}
+use Rattle.answer.specs.Refused.{number_of, fine, refused_fine}
 use Rattle.answer.specs.declared.Refusal.{Refusal}
 use Rattle.answer.specs.declared.Refusal.TheVariants.{Short, Mark, Version, Count, Machine, Node, Edge, Start, Retiming, Tail, Bare, Knot, Dependence, NoRetiming, Units, Size, Long, Room, Early, Busy}
 use Rattle.answer.specs.declared.Refused.{Refused}
@@ -18,7 +17,6 @@ use Rattle.reader.specs.Reading.{read_form}
 use Rattle.record.specs.ReadFirst.{first-refused, first-asked}
 use Rattle.legal.specs.Loop.{loop_of, pair_of}
 use Rattle.legal.specs.Shape.{sound-form, plain_form}
-use Rattle.legal.specs.Systems.{knotted}
 use Rattle.legal.specs.Knots.{free-unknotted}
 use Rattle.legal.specs.Legal.{Legal}
 use Rattle.legal.specs.Paced.{legal-free}
@@ -27,11 +25,10 @@ use Rattle.legal.specs.Judged.{judge-accepts}
 use Rattle.judge.specs.Judgement.{judge_record}
 use Rattle.floor.specs.declared.Attained.{Attained}
 use Rattle.floor.specs.Outcome.{floored_in}
-use Rattle.floor.specs.Parts.{floor_length}
 use Rattle.floor.specs.Bounds.{floor-bound}
 use Rattle.floor.specs.Floor.{floor_refusal, FormFloored}
-use Rattle.listing.specs.Lines.{form_lines, refused_line, listing_of}
-use Rattle.listing.specs.Shown.{Shown, Viewed, view_text}
+use Rattle.listing.specs.Lines.{listing_of}
+use Rattle.listing.specs.Shown.{Viewed, view_text}
 
 -- a refusal's number is small
 pub small_number : (e : Refusal) → number_of (Some e) ≤ 20

@@ -111,7 +111,7 @@ fn put_form(page: &mut Page, form: Form, floor: u32)
     requires { Shown form floor × (page.old.at ≡ 0) }
     ensures { (page.new.at ≤ 1000000) × Puts page.old page.new (form_lines form) }
 {
-    let times = tables::times_of(form);
+    let times = tables::times_of(&form);
     let depth = tables::largest(&times.retiming, form.header.nodes);
     page.word(b"RSK 1\n");
     put_counts(page, form.header, depth, floor);
@@ -144,15 +144,19 @@ fn put_view(out: &mut [u8], view: Result<View, Refused>) -> usize
 fn view_of(record: &[u8]) -> Result<View, Refused>
     ensures { Viewed «record».now result }
 {
-    let form = reader::read(record)?;
-    let edges = form.edges();
-    let times = tables::times_of(form);
-    judge::judge_tables(edges, times)?;
-    let attained = floor::floor_tables(edges, times)?;
-    Ok(View {
-        form,
-        floor: attained.floor,
-    })
+    match &reader::read(record) {
+        Ok(form) => {
+            let edges = form.edges();
+            let times = tables::times_of(form);
+            judge::judge_tables(edges, times)?;
+            let attained = floor::floor_tables(edges, times)?;
+            Ok(View {
+                form: *form,
+                floor: attained.floor,
+            })
+        }
+        Err(refusal) => Err((*refusal).into()),
+    }
 }
 
 // The record's listing into `out`, or what the judge refuses of it; its size. Room leaves `out` as it was.

@@ -27,6 +27,7 @@ use Rattle.legal.specs.Shape.{sound-form}
 use Rattle.legal.specs.Systems.{knotted}
 use Rattle.legal.specs.Handed.{Handed, handed-none, handed-knot}
 use Rattle.machine.specs.Unique.{Ranks}
+use Rattle.knots.specs.declared.Tied.{Tied}
 use Rattle.knots.specs.Outcome.{ranking_in}
 use Rattle.knots.specs.Found.{KnotFound, RanksFound}
 use Rattle.tables.specs.Edges.{Ends, Told, ends-form, told-form}
@@ -73,11 +74,11 @@ pub lent-told : (f : Form) (m : ℕ) (from to delays : List ℕ) → m ≡ f.hea
 lent-told f m from to delays few tables = rw (few, tables.0, tables.1, tables.2) (told-form f)
 
 -- what is made of ranks or a knot, m: the ranks where there are some, and else what the knot is turned into
-abbrev Turned : Result (List ℕ) Cycle → Result (List ℕ) Refused → (Cycle → Refused → Type 0) → Type 0
+abbrev Turned : Result (List ℕ) Tied → Result (List ℕ) Refused → (Tied → Refused → Type 0) → Type 0
 Turned r m Q = MatchResult r (λ x. m ≡ Ok x) (λ c. IsErrAnd m (Q c))
 
 -- where these are ranks there is no knot, and they rise
-pub ranked-free : (f : Form) (r : Result (List ℕ) Cycle) (m : Result (List ℕ) Refused) (Q : Cycle → Refused → Type 0) (rank : List ℕ) → RanksFound (loop_of f) (ranking_in (loop_of f) r)
+pub ranked-free : (f : Form) (r : Result (List ℕ) Tied) (m : Result (List ℕ) Refused) (Q : Tied → Refused → Type 0) (rank : List ℕ) → RanksFound (loop_of f) (ranking_in r)
     → Turned r m Q → m ≡ Ok rank → (knotted (loop_of f) ≡ false) × Ranks (loop_of f) (λ v. get_or rank v 0)
 ranked-free f (Ok x) m Q rank found turned is = let same : rank ≡ x = cc in (found.found.free refl, rw same (found.rises refl))
 ranked-free f (Err c) m Q rank found turned is = elim (subst (λ (y : Result (List ℕ) Refused). IsErrAnd y (Q c)) is turned) [ ]
@@ -93,11 +94,13 @@ module _ (f : Form) (k : ℕ) (starts before : List ℕ) where
   }
 
   -- and where it is none a knot is handed on
-  pub looped-knotted : (r : Result (List ℕ) Cycle) (m : Result (List ℕ) Refused) (Q : Cycle → Refused → Type 0) (e : Refused) → RanksFound (loop_of f) (ranking_in (loop_of f) r) → IfErr r (λ c. 0 < c.count)
-      → Turned r m Q → m ≡ Err e → ((c : Cycle) → Q c e → e ≡ record { refusal = Knot; cycle = Some c })
+  pub looped-knotted : (r : Result (List ℕ) Tied) (m : Result (List ℕ) Refused) (Q : Tied → Refused → Type 0) (e : Refused) → RanksFound (loop_of f) (ranking_in r) → IfErr r (λ tied. 0 < tied.knot.count)
+      → Turned r m Q → m ≡ Err e → ((tied : Tied) → Q tied e → (e.refusal ≡ Knot) × (e.cycle ≡ Some tied.knot))
       → FormLooped f k starts before before (looped_in (Err e))
   looped-knotted (Ok rank) m Q e found some turned is made = cc
-  looped-knotted (Err c) m Q e found some turned is made = rw (made c (subst (λ (y : Result (List ℕ) Refused). IsErrAnd y (Q c)) is turned)) (looped-knot c found.found some)
+  looped-knotted (Err tied) m Q e found some turned is made =
+      let told = made tied (subst (λ (y : Result (List ℕ) Refused). IsErrAnd y (Q tied)) is turned) in
+      rw (told.0, told.1) (looped-knot tied.knot found.found some)
 
   module _ (free : knotted (loop_of f) ≡ false) (q : Verdict) (is : q ≡ room_of f.header.nodes k (length starts) (length before)) where
     room-answer : q ≡ plain_of (loop_of f) k (length starts) (length before)
@@ -157,3 +160,8 @@ module _ (s : List ℕ) (k : ℕ) (starts before : List ℕ) where
     done = rw (← back) t.done;
     untouched = t.untouched;
   }
+
+-- refused by the reader, as the arm that hands it on has it
+pub record-unread : (s : List ℕ) (k : ℕ) (starts before : List ℕ) (e : Refused) (r : Refusal) → (e.refusal ≡ r) × (e.cycle ≡ None) → record_in (Err r) ≡ read_form s
+    → RecordLooped s k starts before before (looped_in (Err e))
+record-unread s k starts before e r told back = rw (told.0, told.1) (record-refused s k starts before r back)

@@ -2,11 +2,10 @@
 -- Assumes nothing.
 use mathlib.Core.Path.{◌≡◌, refl, sym, ◌∙◌, ap}
 use mathlib.Core.List.{List}
-use Prim.Native.Nat.{ℕ, ◌+◌, ◌-◌, ◌*◌, ◌≤◌, ◌<◌}
-use native.Mathlib.Omega.{arith}
+use Prim.Native.Nat.{ℕ, ◌+◌, ◌<◌}
 use native.Mathlib.Numerals.{add-one}
-use native.Mathlib.Nat.{zero-add, suc-mul}
-use lib.ListN.{length, get_or, set, take, length-set}
+use native.Mathlib.Nat.{zero-add}
+use lib.ListN.{length, get_or, set, take}
 use lib.Seq.{take-suc}
 use Rattle.lists.specs.Span.{span}
 use Rattle.lists.specs.Fold.{fold, fold-snoc}

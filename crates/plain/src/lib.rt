@@ -1,8 +1,9 @@
 // The plain loop: iteration after iteration, each node after those whose values it needs.
 #![tactic(auto)]
 
-ghost use Rattle.std.specs.Prelude.{◌≡◌, ℕ, ◌*◌, ◌≤◌, ◌<◌, length, get_or, take};
+ghost use Rattle.std.specs.Prelude.{◌≡◌, ℕ, ◌*◌, ◌≤◌, ◌<◌, length, get_or, take, Some};
 ghost use Rattle.answer.specs.Outcome.{refusal_in};
+ghost use Rattle.answer.specs.declared.Refusal.TheVariants.{Knot};
 ghost use Rattle.form.specs.Ranges.{WellFormed};
 ghost use Rattle.legal.specs.Loop.{loop_of};
 ghost use Rattle.plain.specs.Outcome.{looped_in};
@@ -11,6 +12,7 @@ ghost use Rattle.plain.specs.Answer.{room_of, FormLooped, RecordLooped};
 
 use answer::{Refusal, Refused};
 use form::Form;
+use knots::Tied;
 use machine::Iteration;
 use operands::Inputs;
 
@@ -49,6 +51,17 @@ fn iterate_all(form: Form, order: [u8; 64], iterations: u16, starts: &[u32], val
     }
 }
 
+// The refusal of a loop with a knot.
+fn knotted(tied: Tied) -> Refused
+    requires { 0 < tied.knot.count }
+    ensures { (result.refusal ≡ Knot) × (result.cycle ≡ Some tied.knot) }
+{
+    Refused {
+        refusal: Refusal::Knot,
+        cycle: Some(tied.knot),
+    }
+}
+
 // Room for the start table, then for the values.
 fn room_of(nodes: u8, iterations: u16, starts: usize, values: usize) -> Result<(), Refusal>
     ensures { refusal_in result ≡ room_of nodes iterations starts values }
@@ -72,10 +85,7 @@ pub fn plain_form(
     requires { WellFormed form }
     ensures { FormLooped form iterations starts.now values.old values.new (looped_in result) }
 {
-    let rank = knots::ranked(form.header.nodes, form.edges()).map_err(|knot| Refused {
-        refusal: Refusal::Knot,
-        cycle: Some(knot),
-    })?;
+    let rank = knots::ranked(form.header.nodes, form.edges()).map_err(knotted)?;
     room_of(form.header.nodes, iterations, starts.len(), values.len())?;
     let order = sorted::sorted(form.header.nodes, &rank);
     iterate_all(form, order, iterations, starts, values);
@@ -91,6 +101,8 @@ pub fn plain(
 ) -> Result<(), Refused>
     ensures { RecordLooped «record».now iterations starts.now values.old values.new (looped_in result) }
 {
-    let form = reader::read(record)?;
-    plain_form(form, iterations, starts, values)
+    match &reader::read(record) {
+        Ok(form) => plain_form(*form, iterations, starts, values),
+        Err(refusal) => Err((*refusal).into()),
+    }
 }

@@ -54,6 +54,10 @@ taken-where f room w = go (fine (read_form (layout f)).refusal) refl
         let early : number_of (read_form (layout f)).refusal ≤ 10 = read-early (layout f) in
         ⊎_elim (λ q. both_ways (ap fine (sym is ∙ q)) t) (λ q. absurd (omega (arith, ap number_of (sym is ∙ q)))) w
 
+-- a refusal with no cycle beside it, as the definitions speak of a plan
+pub plan-alone : (u : Timetable) (e : Refused) (r : Refusal) → (e.refusal ≡ r) × (e.cycle ≡ None) → plan_in u (Err e) ≡ record { refusal = Some r; rotations = 0; cycle = no_cycle; times = u }
+plan-alone u e r is = rw (is.0, is.1) refl
+
 -- ---- a plan into a buffer
 
 module _ (f : Form) (y : Plan) (out : List ℕ) where
@@ -95,14 +99,14 @@ module _ (f : Form) (y : Plan) (out : List ℕ) where
 
 module _ (asked : Form → Verdict) (planned : Form → Form) (turned : Form → ℕ) (s out : List ℕ) where
   -- what the reader refuses
-  pub entry-unread : (e : Refusal) → record_in (Err e) ≡ read_form s → (r : Result Rewritten Refused) → IsErrAnd r (λ y. y ≡ record { refusal = e; cycle = None })
+  pub entry-unread : (e : Refusal) → record_in (Err e) ≡ read_form s → (r : Result Rewritten Refused) → IsErrAnd r (λ y. (y.refusal ≡ e) × (y.cycle ≡ None))
       → RecordScheduled asked planned turned s out out (scheduled_in r)
   unfolding schedule_record
   entry-unread e back r handed_on =
       let told = err_from_is_err_and r handed_on in
       let unfit : fine (Some e) ≡ false = refused_fine e in
       let early : number_of (Some e) ≤ 10 = subst (λ (x : Record). number_of x.refusal ≤ 10) (sym back) (read-early s) in
-      rw (told.1, told.2) (record {
+      rw (told.1, told.2.0, told.2.1) (record {
         refusal = sym (first-refused s _ back (schedule_refusal asked planned turned (length out)) unfit);
         size = sym (pick-false (fine (Some e)) _ _ unfit);
         rotations = sym (pick-false (fine (Some e)) _ _ unfit);

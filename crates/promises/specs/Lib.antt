@@ -1,4 +1,5 @@
 pub mod Demand1
+pub mod Once
 pub mod Cycles
 pub mod Demand2
 pub mod Demand3

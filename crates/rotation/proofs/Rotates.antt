@@ -1,7 +1,7 @@
 -- The ways that a rotation goes: what the judge refuses, Size, Long, and the form rotated.
 -- Assumes nothing.
-use Rattle.std.specs.Prelude.{Result, Ok, Err, None, Some}
-use mathlib.Core.Path.{◌≡◌, refl, sym, ap, ◌∙◌}
+use Rattle.std.specs.Prelude.{Ok, Err, None, Some}
+use mathlib.Core.Path.{◌≡◌, refl, sym, ap, subst, ◌∙◌}
 use mathlib.Core.Bool.{Bool, true, false, ◌&&◌}
 use mathlib.Core.Logic.{◌⊎◌, ◌≢◌}
 use mathlib.Core.List.{List}
@@ -29,7 +29,7 @@ use Rattle.tables.specs.declared.Timetable.{Timetable}
 use Rattle.tables.specs.Times.{times_of}
 use Rattle.judge.specs.Judgement.{Judgement}
 use Rattle.judge.specs.Outcome.{judged_in}
-use Rattle.plans.specs.Outcome.{plan_in}
+use Rattle.plans.specs.Outcome.{Plan, plan_in}
 use Rattle.plans.specs.Pairs.{with_pair, with_times}
 use Rattle.plans.specs.Tabled.{Tabled}
 use Rattle.plans.specs.Scheduling.{Planned, unturned}
@@ -87,23 +87,23 @@ module _ (f : Form) (w : WellFormed f) (z : ℕ) (accepted : judge_of f ≡ None
   rotate-turnable b edges from to delays t k = let l = rotate-legal b in record { tabled = k; legal = l.0; some = l.1; below = l.2 }
 
   pub rotate-size : turns z f.header.length ≡ false → (n : ℕ) → n ≡ z → (c : Cycle) → c ≡ no_cycle
-      → (u : Timetable) → Planned (rotate_asked z) (rotated_by z) unturned f (record { refusal = Some (Size n); rotations = 0; cycle = c; times = u })
+      → (u : Timetable) (y : Plan) → y ≡ record { refusal = Some (Size n); rotations = 0; cycle = c; times = u } → Planned (rotate_asked z) (rotated_by z) unturned f y
   unfolding rotate_asked fine
-  rotate-size b n is c none _ = record {
+  rotate-size b n is c none u y e = subst (Planned (rotate_asked z) (rotated_by z) unturned f) (sym e) (record {
     refusal = ap (λ (k : ℕ). (Some (Size k))) is ∙ sym (pick_true (fine (judge_of f)) _ _ judge-fine ∙ pick-false (turns z f.header.length) _ _ b);
     form = λ t. both_ways t refl;
     rotations = λ t. refl;
     handed = handed-none _ _ (Some (Size n)) c (omega arith) (omega arith) none;
-  }
+  })
 
   module _ (t : turns z f.header.length ≡ true) (x : Timetable) (is : x ≡ times_of (rotated_or f z)) (c : Cycle) (none : c ≡ no_cycle) where
     long-is : x.length ≡ rotated_length f z
     unfolding times_of
     long-is = ap (λ (y : Timetable). y.length) is ∙ or-length f z
 
-    pub rotate-too-long : 512 < x.length → (u : Timetable) → Planned (rotate_asked z) (rotated_by z) unturned f (record { refusal = Some Long; rotations = 0; cycle = c; times = u })
+    pub rotate-too-long : 512 < x.length → (u : Timetable) (y : Plan) → y ≡ record { refusal = Some Long; rotations = 0; cycle = c; times = u } → Planned (rotate_asked z) (rotated_by z) unturned f y
     unfolding rotate_asked too_long fine
-    rotate-too-long l _ = record {
+    rotate-too-long l u y e = subst (Planned (rotate_asked z) (rotated_by z) unturned f) (sym e) (record {
       refusal =
           sym (pick_true (fine (judge_of f)) _ _ judge-fine
           ∙ pick_true (turns z f.header.length) _ _ t
@@ -111,7 +111,7 @@ module _ (f : Form) (w : WellFormed f) (z : ℕ) (accepted : judge_of f ≡ None
       form = λ q. both_ways q refl;
       rotations = λ q. refl;
       handed = handed-none _ _ (Some Long) c (omega arith) (omega arith) none;
-    }
+    })
 
     pub rotate-planned : x.length ≤ 512 → Planned (rotate_asked z) (rotated_by z) unturned f (record { refusal = None; rotations = 0; cycle = c; times = x })
     unfolding rotate_asked rotated_or too_long

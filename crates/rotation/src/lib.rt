@@ -27,9 +27,13 @@ fn first_plan(edges: Edges, times: Timetable) -> Result<Turned, Refused>
 pub fn first(record: &[u8], out: &mut [u8]) -> Result<Rewritten, Refused>
     ensures { RecordScheduled first_asked first_form unturned «record».now out.old out.new (scheduled_in result) }
 {
-    let form = reader::read(record)?;
-    let plan = first_plan(form.edges(), tables::times_of(form))?;
-    plans::write_plan(form, plan, out)
+    match &reader::read(record) {
+        Ok(form) => {
+            let plan = first_plan(form.edges(), tables::times_of(form))?;
+            plans::write_plan(*form, plan, out)
+        }
+        Err(refusal) => Err((*refusal).into()), // what the reader refuses comes first
+    }
 }
 
 // Whether a body of this length can be rotated by so many steps.
@@ -62,7 +66,11 @@ fn rotate_plan(edges: Edges, times: Timetable, steps: u16) -> Result<Turned, Ref
 pub fn rotate(record: &[u8], steps: u16, out: &mut [u8]) -> Result<Rewritten, Refused>
     ensures { RecordScheduled (rotate_asked steps) (rotated_by steps) unturned «record».now out.old out.new (scheduled_in result) }
 {
-    let form = reader::read(record)?; // what the reader refuses comes first
-    let plan = rotate_plan(form.edges(), tables::times_of(form), steps)?;
-    plans::write_plan(form, plan, out)
+    match &reader::read(record) {
+        Ok(form) => {
+            let plan = rotate_plan(form.edges(), tables::times_of(form), steps)?;
+            plans::write_plan(*form, plan, out)
+        }
+        Err(refusal) => Err((*refusal).into()),
+    }
 }

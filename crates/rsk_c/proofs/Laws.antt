@@ -1,9 +1,9 @@
 -- The ways that rewriting a record goes.
 -- Assumes nothing.
-use mathlib.Core.Path.{◌≡◌, refl, ap, sym, subst}
-use mathlib.Core.Bool.{true, false}
+use mathlib.Core.Path.{◌≡◌, ap, sym, subst}
+use mathlib.Core.Bool.{true}
 use mathlib.Core.List.{List}
-use Rattle.std.specs.Prelude.{Some, Ok, Err}
+use Rattle.std.specs.Prelude.{Ok, Err}
 use Prim.Native.Nat.{ℕ}
 use lib.ListN.{length}
 use Rattle.lists.specs.Pick.{pick}

@@ -4,7 +4,8 @@
 
 ghost use Rattle.std.specs.Prelude.{◌≡◌, length};
 ghost use Rattle.answer.specs.Refused.{number_of};
-ghost use Rattle.answer.specs.Outcome.{answer_list, refused_in, handed_in};
+ghost use Rattle.answer.specs.Outcome.{answer_list};
+ghost use Rattle.answer.specs.Handed.{refused_in, handed_in};
 ghost use Rattle.writer.specs.Outcome.{written_in};
 ghost use Rattle.rsk_c.specs.Rewrite.{rewritten, rewritten_out, rewritten_answer};
 ghost use Rattle.rsk_c.specs.Answered.{numbers_in, JudgeAnswered, FitAnswered, FirstAnswered, RotateAnswered, SearchAnswered, FloorAnswered, RunAnswered, PlainAnswered};
@@ -19,7 +20,7 @@ fn told(answer: &mut [u32; 69], outcome: Result<Details, Refused>) -> u32
 {
     match outcome {
         Ok(numbers) => answer::tell(answer, numbers, None),
-        Err(refused) => answer::refuse(answer, refused),
+        Err(refused) => answer::refuse(answer, refused.refusal, refused.cycle),
     }
 }
 
@@ -27,8 +28,10 @@ fn told(answer: &mut [u32; 69], outcome: Result<Details, Refused>) -> u32
 fn rewrite(record: &[u8], out: &mut [u8]) -> Result<u32, Refusal>
     ensures { (written_in result ≡ rewritten «record».now (length out.old)) × (out.new ≡ rewritten_out «record».now out.old) }
 {
-    let form = reader::read(record)?;
-    writer::write_taken(form, out)
+    match &reader::read(record) {
+        Ok(form) => writer::write_taken(*form, out),
+        Err(refusal) => Err(*refusal),
+    }
 }
 
 // The record read and written again; its size.
@@ -104,7 +107,7 @@ pub extern "C" fn rsk_floor(record: &[u8], answer: &mut [u32; 69]) -> u32
 {
     let attained = match floor::floor(record) {
         Ok(attained) => attained,
-        Err(refused) => return answer::refuse(answer, refused),
+        Err(refused) => return answer::refuse(answer, refused.refusal, refused.cycle),
     };
     let number = floor_part::part_number(attained.part);
     let class = floor_part::part_class(attained.part);

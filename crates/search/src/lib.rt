@@ -87,7 +87,11 @@ fn search_plan(edges: Edges, times: Timetable, count: u16, size: u16) -> Result<
 pub fn search(record: &[u8], count: u16, size: u16, out: &mut [u8]) -> Result<Rewritten, Refused>
     ensures { RecordScheduled (search_asked size) (search_form count size) (search_turns count size) «record».now out.old out.new (scheduled_in result) }
 {
-    let form = reader::read(record)?;
-    let plan = search_plan(form.edges(), tables::times_of(form), count, size)?;
-    plans::write_plan(form, plan, out)
+    match &reader::read(record) {
+        Ok(form) => {
+            let plan = search_plan(form.edges(), tables::times_of(form), count, size)?;
+            plans::write_plan(*form, plan, out)
+        }
+        Err(refusal) => Err((*refusal).into()),
+    }
 }

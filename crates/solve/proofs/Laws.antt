@@ -38,11 +38,10 @@ module _ (s : System) (t : Settled) (e : t ≡ settled_of s) where
       let w = unsettled-loses s j n m (sym same ∙ b) in
       absurd (f.none refl w.0 w.1)
 
-  pub when-unsettled : t.settled ≡ false → (c : Cycle) → FoundCycle s c → 0 < c.count
-      → Solved s (record { settled = false; values = (settled_of s).values; cycle = c })
+  pub when-unsettled : t.settled ≡ false → (c : Cycle) → FoundCycle s c → 0 < c.count → Solved s (record { settled = false; values = t.values; cycle = c })
   when-unsettled b c f some = record {
     settled = sym b ∙ same;
-    values = refl;
+    values = ap (λ (x : Settled). x.values) e;
     none = λ q. absurd (true≢false (sym q));
     shortest = λ q. f.some some;
     some = λ q. some;

@@ -5,7 +5,7 @@ use Rattle.answer.specs.Outcome.{no_cycle, edges_of}
 use Rattle.answer.specs.Tally.{Tallies}
 use Rattle.system.specs.System.{System, FewestEdges}
 use Rattle.system.specs.Rounds.{settled_of}
-use Rattle.answer.specs.declared.Cycle.{Cycle}
+use Rattle.solve.specs.declared.Unsettled.{Unsettled}
 use Rattle.solve.specs.Outcome.{Solution, solution_in}
 
 pub record Solved (s : System) (r : Solution) : Type 0 where
@@ -17,6 +17,6 @@ pub record Solved (s : System) (r : Solution) : Type 0 where
   pub few : r.cycle.count ≤ s.graph.nodes
   pub tallies : Tallies r.cycle
 
--- the same of what comes back: the values, or a losing cycle
-abbrev pub SolvedBy : System → Result (List ℕ) Cycle → Type 0
-SolvedBy s r = Solved s (solution_in s r)
+-- the same of what comes back: the values, or a losing cycle and the last round's values
+abbrev pub SolvedBy : System → Result (List ℕ) Unsettled → Type 0
+SolvedBy s r = Solved s (solution_in r)

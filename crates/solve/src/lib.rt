@@ -9,18 +9,25 @@ ghost use Rattle.solve.specs.Solved.{SolvedBy};
 use answer::Cycle;
 use system::Constraints;
 
-// The least values that solve the system, or a losing cycle.
-pub fn solve(system: Constraints) -> Result<[u32; 64], Cycle>
+// What refutes a system: a losing cycle, and the values that its last round left.
+#[derive(Clone, Copy)]
+pub struct Unsettled {
+    pub cycle: Cycle,
+    pub values: [u32; 64],
+}
+
+// The least values that solve the system, or what refutes it.
+pub fn solve(system: Constraints) -> Result<[u32; 64], Unsettled>
     requires le_nodes { (1 ≤ system.nodes) × (system.nodes ≤ 64) × (system.edges ≤ 256) }
     requires joined { Joined (system_in system).graph }
     ensures { SolvedBy (system_in system.entry) result }
 {
     match system::settle(system) {
         Ok(values) => Ok(values),
-        Err(_) => {
+        Err(values) => {
             // what does not settle loses on some cycle
             let cycle = cycle::shortest_cycle(system).unwrap();
-            Err(cycle)
+            Err(Unsettled { cycle, values })
         }
     }
 }

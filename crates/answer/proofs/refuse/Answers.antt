@@ -6,4 +6,4 @@ use Rattle.answer.proofs.refuse.Goals as goal
 
 pub returns-clause-all : goal.returns-clause-all
 returns-clause-all c numbers =
-    rw (told-refused c.args.refused.refusal numbers, ← c.details.ensures) (c.lay.ensures (Some c.args.refused.refusal) c.number-number.ensures)
+    rw (told-refused c.args.refusal numbers, ← c.details.ensures) (c.lay.ensures (Some c.args.refusal) c.number-number.ensures)

@@ -1,7 +1,6 @@
 -- `fit::fit_limits` meets its contract: the tables are the limits of a loop's starts, solved and turned over.
 -- Assumes nothing.
 use mathlib.Core.Path.{refl}
-use Rattle.std.proofs.lemmas.Result.{err_from_is_err_and}
 use Rattle.fit.proofs.Starts.{under_top, tables-joined, tables-bounds, tables-top, tables-fit, tables-unfit}
 use Rattle.fit.proofs.fit_limits.Goals as goal
 
@@ -9,20 +8,18 @@ pub solve-requires : goal.solve-requires
 solve-requires c =
     record { le_nodes = tables-bounds _ _ _ _ _ _ _ _ c.requires.1.1; joined = tables-joined _ _ _ _ _ _ _ _ c.requires.1.1 }
 
-pub returns-in_err-values : goal.returns-in_err-values
-returns-in_err-values c g p d =
-    let told = err_from_is_err_and c.from_residual.result c.from_residual.ensures.1 in
-    rw (told.1, told.2) (tables-unfit g p _ _ _ _ _ _ d _ c.in_err-values.ensures refl)
+pub returns-in-Err : goal.returns-in-Err
+returns-in-Err c g p d = tables-unfit g p _ _ _ _ _ _ d _ c.in-Err.ensures refl
 
 pub turned-requires : goal.turned-requires
 turned-requires c =
     record {
       nodes_bound = (
         (tables-bounds _ _ _ _ _ _ _ _ c.requires.1.1).1,
-        tables-top _ _ _ _ _ _ _ _ c.requires.1.1 _ c.in_ok-values.ensures refl _ c.top_of-highest.ensures,
+        tables-top _ _ _ _ _ _ _ _ c.requires.1.1 _ c.in-Ok.ensures refl _ c.top_of-highest.ensures,
       );
       by_index = under_top _ _ _ c.top_of-highest.ensures;
     }
 
 pub returns : goal.returns
-returns c g p d = tables-fit g p _ _ _ _ _ _ d _ c.in_ok-values.ensures refl _ c.top_of-highest.ensures _ c.turned.ensures
+returns c g p d = tables-fit g p _ _ _ _ _ _ d _ c.in-Ok.ensures refl _ c.top_of-highest.ensures _ c.turned.ensures

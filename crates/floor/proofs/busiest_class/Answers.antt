@@ -5,7 +5,6 @@ use Prim.Native.Nat.{ℕ}
 use native.Mathlib.Omega.{arith}
 use Rattle.floor.specs.Tables.{Busy}
 use Rattle.floor.proofs.Laws.{busy-none, busy-here, busy-past, part-is}
-use borrow.Author.Rules.{rules}
 use Rattle.floor.proofs.busiest_class.Goals.{else-part-here, then-part-here}
 use Rattle.floor.proofs.busiest_class.Goals as goal
 

@@ -1,7 +1,7 @@
 -- `floor::costs_of` meets its contract: the places passed are filled.
 -- Assumes nothing.
 use mathlib.Core.Path.{◌≡◌}
-use Prim.Native.Nat.{ℕ, ◌-◌, ◌≤◌, ◌<◌}
+use Prim.Native.Nat.{ℕ, ◌<◌}
 use lib.ListN.{length, get_or}
 use Rattle.floor.proofs.costs_of.Given as goal
 

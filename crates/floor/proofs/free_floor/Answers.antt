@@ -4,7 +4,7 @@ use Rattle.std.specs.Prelude.{Option, IsSomeAnd}
 use mathlib.Core.Path.{◌≡◌}
 use mathlib.Core.Bool.{false}
 use mathlib.Core.List.{List}
-use Prim.Native.Nat.{ℕ, ◌-◌, ◌<◌}
+use Prim.Native.Nat.{ℕ, ◌<◌}
 use native.Mathlib.Omega.{arith}
 use Rattle.answer.specs.Outcome.{edges_of}
 use Rattle.answer.specs.Tally.{Tallies}

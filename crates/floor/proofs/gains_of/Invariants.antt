@@ -1,7 +1,7 @@
 -- `floor::gains_of` meets its contract: the places passed are filled.
 -- Assumes nothing.
 use mathlib.Core.Path.{◌≡◌}
-use Prim.Native.Nat.{ℕ, ◌*◌, ◌-◌, ◌≤◌, ◌<◌}
+use Prim.Native.Nat.{ℕ, ◌*◌, ◌<◌}
 use lib.ListN.{length as listLength, get_or}
 use Rattle.floor.proofs.gains_of.Given as goal
 

@@ -1,7 +1,6 @@
 -- `floor::least_over` meets its contract: no length up to the short one is enough, and the long one is.
 -- Assumes nothing.
 use mathlib.Core.Path.{sym, ◌∙◌}
-use mathlib.Core.Bool.{true, false}
 use mathlib.Core.Logic.{◌≢◌}
 use native.Mathlib.Omega.{arith}
 use Rattle.lists.specs.Pick.{both_ways}

@@ -1,6 +1,5 @@
 -- `listing::put_view` meets its contract: a form, or a refusal's number.
 -- Assumes nothing.
-use mathlib.Core.Path.{◌≡◌}
 use native.Mathlib.Omega.{arith}
 use borrow.Author.Rules.{rules}
 use Rattle.text.specs.Page.{Puts}

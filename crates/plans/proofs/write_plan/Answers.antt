@@ -21,7 +21,7 @@ returns-in_err-size c =
     let was : c.write_taken.result ≡ Err c.in_err-size.field-0.0 = cc in
     let is = rw was at c.write_taken.ensures.0 in
     let told = err_from_is_err_and c.from_residual.result c.from_residual.ensures.1 in
-    rw (told.1, told.2) (plan-roomless _ _ _ none_fine _ (stored _ _ _ c.steps_of-steps.ensures) _ _ is c.write_taken.ensures.1 (refused_fine _))
+    rw (told.1, told.2.0, told.2.1) (plan-roomless _ _ _ none_fine _ (stored _ _ _ c.steps_of-steps.ensures) _ _ is c.write_taken.ensures.1 (refused_fine _))
 
 pub returns : goal.returns
 returns c =

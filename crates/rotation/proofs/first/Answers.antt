@@ -1,5 +1,9 @@
 -- `rotation::first` meets its contract: the reader's refusal, the plan's, else what becomes of the plan.
 -- Assumes nothing.
+use Rattle.record.specs.ReadFirst.{read-as}
+use Rattle.reader.specs.Outcome.{record_in}
+use Rattle.reader.specs.Reading.{read_form}
+use Rattle.std.specs.Prelude.{◌≡◌, Ok, Err}
 use native.Mathlib.Omega.{arith}
 use Rattle.answer.specs.Refused.{none_fine}
 use Rattle.form.specs.Ranges.{WellFormed}
@@ -10,38 +14,42 @@ use Rattle.plans.proofs.Entries.{entry-unread, plan-taken, entry-planned, entry-
 use Rattle.turning.specs.Rotation.{first_form}
 use Rattle.rotation.specs.Rotating.{first_asked}
 use Rattle.rotation.proofs.FirstPlans.{first-writes}
-use Rattle.rotation.proofs.first.Goals.{In_ok-form, After-times_of}
+use Rattle.rotation.proofs.first.Goals.{In-Ok, After-times_of}
 use Rattle.rotation.proofs.first.Goals as goal
 
-good : (c : In_ok-form) → WellFormed c.in_ok-form.form
-good c = read-good c.args.«record».now _ c.in_ok-form.ensures (λ i. omega (arith, c.type_inv.«record» i)) none_fine
+-- the form that was read, in the arm that has it
+held : (c : In-Ok) → record_in (Ok c.in-Ok.form) ≡ read_form c.args.«record».now
+held c = read-as c.args.«record».now _ _ c.in-Ok.is c.read.ensures
 
-pub returns-in_err-form : goal.returns-in_err-form
-returns-in_err-form c = entry-unread _ _ _ _ _ _ c.in_err-form.ensures _ c.from_residual.ensures.1
+good : (c : In-Ok) → WellFormed c.in-Ok.form
+good c = read-good c.args.«record».now _ (held c) (λ i. omega (arith, c.type_inv.«record» i)) none_fine
+
+pub returns-in-Err : goal.returns-in-Err
+returns-in-Err c = entry-unread _ _ _ _ _ _ (read-as _ _ _ c.in-Err.is c.read.ensures) (Err c.into.result) c.into.ensures
 
 pub times_of-requires : goal.times_of-requires
-times_of-requires c = good (goal.at.times_of-requires c).In_ok-form
+times_of-requires c = good (goal.at.times_of-requires c).In-Ok
 
-tabled : (p : After-times_of) → WellFormed p.in_ok-form.form → TabledBy p.in_ok-form.form p.edges.result p.times_of.result
+tabled : (p : After-times_of) → WellFormed p.in-Ok.form → TabledBy p.in-Ok.form p.edges.result p.times_of.result
 tabled p w = tabled-edges _ p.edges.result _ p.edges.ensures.count p.edges.ensures.tables w p.times_of.ensures
 
 pub first_plan-requires : goal.first_plan-requires
-first_plan-requires c = let at = goal.at.first_plan-requires c in (c.in_ok-form.form, tabled at.After-times_of (good at.In_ok-form))
+first_plan-requires c = let at = goal.at.first_plan-requires c in (c.in-Ok.form, tabled at.After-times_of (good at.In-Ok))
 
-pub returns-in_err-plan : goal.returns-in_err-plan
-returns-in_err-plan c =
-    let at = goal.at.returns-in_err-plan c in
-    entry-refused first_asked first_form unturned c.args.«record».now c.args.out.now _ c.in_ok-form.ensures (λ i. omega (arith, c.type_inv.«record» i)) first-writes _ c.in_err-plan.field-0.0
-    (c.in_err-plan.ensures _ (tabled at.After-times_of (good at.In_ok-form))) _ c.from_residual-in_err-plan.ensures.1
+pub returns-in_err-plan-in-Ok : goal.returns-in_err-plan-in-Ok
+returns-in_err-plan-in-Ok c =
+    let at = goal.at.returns-in_err-plan-in-Ok c in
+    entry-refused first_asked first_form unturned c.args.«record».now c.args.out.now _ (held at.In-Ok) (λ i. omega (arith, c.type_inv.«record» i)) first-writes _ c.in_err-plan-in-Ok.field-0.0
+    (c.in_err-plan-in-Ok.ensures _ (tabled at.After-times_of (good at.In-Ok))) _ c.from_residual.ensures.1
 
 pub write_plan-requires : goal.write_plan-requires
 write_plan-requires c =
     let at = goal.at.write_plan-requires c in
-    plan-taken first_asked first_form unturned c.args.«record».now c.args.out.now _ c.in_ok-form.ensures (λ i. omega (arith, c.type_inv.«record» i)) first-writes _
-    (c.in_ok-plan.ensures _ (tabled at.After-times_of (good at.In_ok-form))) none_fine
+    plan-taken first_asked first_form unturned c.args.«record».now c.args.out.now _ (held at.In-Ok) (λ i. omega (arith, c.type_inv.«record» i)) first-writes _
+    (c.in_ok-plan-in-Ok.ensures _ (tabled at.After-times_of (good at.In-Ok))) none_fine
 
-pub returns : goal.returns
-returns c =
-    let at = goal.at.returns c in
-    entry-planned first_asked first_form unturned c.args.«record».now c.args.out.now _ c.in_ok-form.ensures (λ i. omega (arith, c.type_inv.«record» i)) first-writes _
-    (c.in_ok-plan.ensures _ (tabled at.After-times_of (good at.In_ok-form))) _ _ c.write_plan.ensures
+pub returns-in_ok-plan-in-Ok : goal.returns-in_ok-plan-in-Ok
+returns-in_ok-plan-in-Ok c =
+    let at = goal.at.returns-in_ok-plan-in-Ok c in
+    entry-planned first_asked first_form unturned c.args.«record».now c.args.out.now _ (held at.In-Ok) (λ i. omega (arith, c.type_inv.«record» i)) first-writes _
+    (c.in_ok-plan-in-Ok.ensures _ (tabled at.After-times_of (good at.In-Ok))) _ _ c.write_plan.ensures

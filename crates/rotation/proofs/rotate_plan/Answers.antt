@@ -1,10 +1,12 @@
 -- `rotation::rotate_plan` meets its contract: what the judge refuses, Size, then Long, else the form rotated.
 -- Assumes nothing.
-use mathlib.Core.Path.{refl, sym, ◌∙◌}
+use mathlib.Core.Path.{refl, ◌∙◌}
 use native.Mathlib.Omega.{arith}
 use Rattle.std.proofs.lemmas.Result.{err_from_is_err_and}
 use Rattle.answer.specs.Outcome.{no_cycle}
 use Rattle.rotation.proofs.Rotates.{turns-here, judge-accepted, rotate-unjudged, rotate-turnable, rotate-size, rotate-too-long, rotate-planned}
+use borrow.Author.Rules.{rules}
+use Rattle.plans.proofs.Entries.{plan-alone}
 use Rattle.rotation.proofs.rotate_plan.Goals as goal
 
 pub judge_tables-requires : goal.judge_tables-requires
@@ -18,8 +20,7 @@ returns-in_err-judge_tables c f k =
 pub returns-then-not-turns_by : goal.returns-then-not-turns_by
 returns-then-not-turns_by c f k =
     let accepted = judge-accepted f _ (c.in_ok-judge_tables.ensures f k.lent) in
-    rw c.into.ensures
-    (rotate-size f k.lent.good c.args.steps accepted (turns-here f _ _ _ _ _ k c.args.steps _ c.turns_by.ensures ∙ c.if-not-turns_by.true) _ refl no_cycle refl _)
+    rotate-size f k.lent.good c.args.steps accepted (turns-here f _ _ _ _ _ k c.args.steps _ c.turns_by.ensures ∙ c.if-not-turns_by.true) _ refl no_cycle refl c.args.times _ (search (rules, plan-alone))
 
 pub rotate_times-turned-requires : goal.rotate_times-turned-requires
 rotate_times-turned-requires c =
@@ -31,8 +32,7 @@ returns-then-turned-gt512 c f k =
     let w = k.lent.good in
     let turns = turns-here f _ _ _ _ _ k c.args.steps _ c.turns_by.ensures ∙ c.if-not-turns_by.false in
     let accepted = judge-accepted f _ (c.in_ok-judge_tables.ensures f k.lent) in
-    rw c.into-then-turned-gt512.ensures
-    (rotate-too-long f w c.args.steps accepted turns _ (c.rotate_times-turned.ensures f (rotate-turnable f w c.args.steps accepted turns _ _ _ _ _ k)) no_cycle refl (omega (arith, c.if-turned-gt512.true)) _)
+    rotate-too-long f w c.args.steps accepted turns _ (c.rotate_times-turned.ensures f (rotate-turnable f w c.args.steps accepted turns _ _ _ _ _ k)) no_cycle refl (omega (arith, c.if-turned-gt512.true)) c.args.times _ (search (rules, plan-alone))
 
 pub returns : goal.returns
 returns c f k =

@@ -5,6 +5,8 @@ use Rattle.std.proofs.lemmas.Result.{err_from_is_err_and}
 use Rattle.answer.specs.Outcome.{no_cycle}
 use Rattle.tables.specs.Lent.{lent-ends}
 use Rattle.search.proofs.Plans.{search-tied, search-size, search-planned}
+use borrow.Author.Rules.{rules}
+use Rattle.plans.proofs.Entries.{plan-alone}
 use Rattle.search.proofs.search_plan.Goals as goal
 
 pub unknotted-requires : goal.unknotted-requires
@@ -17,7 +19,7 @@ returns-in_err-unknotted c f k =
 
 pub returns-then-size-eq0 : goal.returns-then-size-eq0
 returns-then-size-eq0 c f k =
-    rw c.into.ensures (search-size f _ _ no_cycle (c.in_ok-unknotted.ensures _ k.lent.told) (omega arith) (omega (arith, c.if-size-eq0.true)) _)
+    search-size f _ _ no_cycle (c.in_ok-unknotted.ensures _ k.lent.told) (omega arith) (omega (arith, c.if-size-eq0.true)) c.args.times _ (search (rules, plan-alone))
 
 pub search_times-requires : goal.search_times-requires
 search_times-requires c =

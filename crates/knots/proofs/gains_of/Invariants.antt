@@ -1,0 +1,9 @@
+-- `knots::gains_of` meets its contract: the places passed are filled.
+-- Assumes nothing.
+use mathlib.Core.Path.{◌≡◌}
+use Prim.Native.Nat.{ℕ, ◌*◌, ◌<◌}
+use lib.ListN.{length, get_or}
+use Rattle.knots.proofs.gains_of.Given as goal
+
+abbrev pub invariant-loop-e : goal.invariant-loop-e
+invariant-loop-e l = (length l.gains ≡ 256) × ((k : ℕ) → k < l.e → get_or l.gains k 0 ≡ 64 * get_or l.delays k 0)
