@@ -1,6 +1,6 @@
 -- How an answer tells the part that attains the floor: its number, and its class.
 -- Assumes nothing.
-use Rattle.std.specs.Prelude.{ℕ}
+use Rattle.std.specs.Prelude.{ℕ, Option, None, Some}
 use Rattle.answer.specs.declared.Cycle.{Cycle}
 use Rattle.answer.specs.Outcome.{no_cycle}
 use Rattle.floor_part.specs.declared.Part.{Part as Told}
@@ -31,3 +31,9 @@ abbrev pub part_cycle : Told → Cycle
 part_cycle told.Latency = no_cycle
 part_cycle (told.Units c) = no_cycle
 part_cycle (told.Cycle c) = c
+
+-- the cycle that a part hands over: none, if it is none
+abbrev pub cycle_in : Told → Option Cycle
+cycle_in told.Latency = None
+cycle_in (told.Units c) = None
+cycle_in (told.Cycle c) = Some c

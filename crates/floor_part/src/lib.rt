@@ -3,7 +3,7 @@
 
 ghost use Rattle.std.specs.Prelude.{◌≡◌};
 ghost use Rattle.answer.specs.Outcome.{cycle_or};
-ghost use Rattle.floor_part.specs.Numbers.{kind_of, part_number, part_class, part_cycle};
+ghost use Rattle.floor_part.specs.Numbers.{kind_of, part_number, part_class, part_cycle, cycle_in};
 
 use answer::Cycle;
 
@@ -37,9 +37,10 @@ pub fn part_class(part: Part) -> u32
     }
 }
 
-// The cycle of a part that is one.
+// The cycle of a part that is one, else none.
 pub fn part_cycle(part: Part) -> Option<Cycle>
-    ensures { cycle_or result ≡ part_cycle part }
+    ensures told { cycle_or result ≡ part_cycle part }
+    ensures handed { result ≡ cycle_in part }
 {
     match part {
         Part::Latency => None,

@@ -7,7 +7,13 @@ use Rattle.turning.proofs.first_times.Goals as goal
 
 pub placed-requires : goal.placed-requires
 placed-requires c =
-    record { ends = (bare_ends c.requires.0 _ _ _ _ _ c.requires.1.tabled.lent _ _ _ _ c.with_pair-bare.ensures, bare-sound c.requires.0 _ _ _ _ _ c.requires.1.tabled.lent _ _ _ _ c.with_pair-bare.ensures, bare-in-body c.requires.0 _ _ _ _ _ c.requires.1.tabled.lent _ _ _ _ c.with_pair-bare.ensures (first-early c.requires.0 _ _ _ _ _ c.requires.1)); placeable = (loop_of c.requires.0, (table_pair _ _ _, bare-placeable c.requires.0 _ _ _ _ _ c.requires.1.tabled.lent _ _ _ _ c.with_pair-bare.ensures (first-places-soon c.requires.0 _ _ _ _ _ c.requires.1))) }
+    let f = c.requires.0 in
+    let lent = c.requires.1.tabled.lent in
+    let bare = c.with_pair-bare.ensures in
+    record {
+      ends = (bare_ends f _ _ _ _ _ lent _ _ _ _ bare, bare-sound f _ _ _ _ _ lent _ _ _ _ bare, bare-in-body f _ _ _ _ _ lent _ _ _ _ bare (first-early f _ _ _ _ _ c.requires.1));
+      placeable = (loop_of f, (table_pair _ _ _, bare-placeable f _ _ _ _ _ lent _ _ _ _ bare (first-places-soon f _ _ _ _ _ c.requires.1)));
+    }
 
 pub returns : goal.returns
 returns c f k =
