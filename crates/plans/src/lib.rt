@@ -31,7 +31,12 @@ pub struct Turned {
 fn steps_of(start: [u16; 64]) -> [BodyStep; 64]
     ensures { result ≡ map as_body_step start }
 {
-    start.map(BodyStep)
+    let mut steps = [BodyStep(0); 64];
+    for v in 0..64u8 {
+        let i = v as usize;
+        steps[i] = BodyStep(start[i]);
+    }
+    steps
 }
 
 // The form with a plan's pair into `out`; a refusal leaves `out` as it was.

@@ -6,7 +6,7 @@ use Rattle.std.proofs.Common.{drop-cons, subst}
 use mathlib.Core.Path.{◌≡◌, refl, ap, sym, ◌∙◌}
 use mathlib.Core.Bool.{Bool, true, false}
 use mathlib.Core.List.{List, map}
-use lib.ListN.{length, get_or, replicate, length-map}
+use lib.ListN.{length, get_or, length-map}
 use Prim.Native.Nat.{ℕ, zero, suc, ◌+◌, ◌*◌, ◌-◌, ◌<◌, ◌≤◌}
 use native.Mathlib.Nat.{mul-suc, mul-zero, add-zero, sub-zero}
 use native.Mathlib.Numerals.{add-one}
@@ -16,16 +16,14 @@ use borrow.Author.Tests.{le-ltb, lt-ltb, le-leb, lt-leb, eq-eqb, ne_eqb}
 use Rattle.lists.specs.Pick.{pick, pick-false}
 use Rattle.answer.specs.Refused.{fine, refused_fine}
 use Rattle.answer.specs.declared.Refusal.{Refusal}
-use Rattle.reader.specs.Outcome.{Reading}
+use Rattle.reader.specs.Outcome.{Reading, EdgeTable, PlacedTable}
 use Rattle.form.specs.declared.Form.{Form}
 use Rattle.form.specs.declared.Header.{Header}
 use Rattle.form.specs.declared.Class.{Class}
 use Rattle.form.specs.declared.Node.{Node}
-use Rattle.form.specs.Places.{no_class, no_node, empty_form, with_header, with_classes, with_nodes, scheduled, scheduled_of}
+use Rattle.form.specs.Places.{empty_form, with_header, with_classes, with_nodes, scheduled, scheduled_of}
 use Rattle.form.specs.Offsets.{nodes_at, edges_at, starts_at}
-use Rattle.reader.specs.declared.EdgeTable.{EdgeTable}
-use Rattle.reader.specs.declared.StartTable.{StartTable}
-use Rattle.reader.specs.Tables.{header_of, table, class_step, node_step, edge_step, start_step, reading, Few, Staged, TableRead, ClassesRead, NodesRead, EdgesRead, StartsRead, no_edges, with_edge_rows, no_starts, with_start_rows}
+use Rattle.reader.specs.Tables.{header_of, table, class_step, node_step, edge_step, start_step, reading, Few, Staged, TableRead, ClassesRead, NodesRead, EdgesRead, StartsRead, no_classes, no_nodes, no_edges, with_edge_rows, no_starts, with_start_rows}
 use Rattle.reader.specs.Reading.{classes_read, nodes_read, edges_read, starts_read, TablesRead, zero_from, some_zero}
 
 -- an array of structs as a field: its length, from what owning the struct tells
@@ -115,7 +113,7 @@ noded h k v = with_nodes (classed h k) v
 abbrev edged : Header → List Class → List Node → EdgeTable → Form
 edged h k v t = with_edge_rows (noded h k v) t
 
-abbrev placed : Header → List Class → List Node → EdgeTable → StartTable → Form
+abbrev placed : Header → List Class → List Node → EdgeTable → PlacedTable → Form
 placed h k v t x = with_start_rows (edged h k v t) x
 
 -- a table read from where the stage before it ends is the next stage
@@ -129,13 +127,13 @@ staged step count width at made none x e r t =
 module _ (s : List ℕ) (h : Header) (eh : reading (counted h) 11 ≡ header_of s) where
   pub classes-staged : (r : Result (List Class) Refusal) → ClassesRead s 11 h.classes r → Staged (λ k. reading (classed h k) (nodes_at h)) (classes_read s) r
   unfolding classes_read empty_form
-  classes-staged r t = staged (class_step s) (λ f. f.header.classes) 3 11 (classed h) (replicate 4 no_class) (header_of s) eh r (t (counted h))
+  classes-staged r t = staged (class_step s) (λ f. f.header.classes) 3 11 (classed h) no_classes (header_of s) eh r (t (counted h))
 
   module _ (k : List Class) (ks : ClassesRead s 11 h.classes (Ok k)) where
     pub nodes-staged : (r : Result (List Node) Refusal) → NodesRead s (nodes_at h) h.classes h.nodes r → Staged (λ v. reading (noded h k v) (edges_at h)) (nodes_read s) r
     unfolding nodes_read empty_form
     nodes-staged r t =
-        staged (node_step s) (λ f. f.header.nodes) 6 (nodes_at h) (noded h k) (replicate 64 no_node) (classes_read s) (classes-staged (Ok k) ks) r (t (classed h k) refl)
+        staged (node_step s) (λ f. f.header.nodes) 6 (nodes_at h) (noded h k) no_nodes (classes_read s) (classes-staged (Ok k) ks) r (t (classed h k) refl)
 
     module _ (v : List Node) (vs : NodesRead s (nodes_at h) h.classes h.nodes (Ok v)) where
       pub edges-staged : (r : Result EdgeTable Refusal) → EdgesRead s (edges_at h) h.nodes h.edges r → Staged (λ g. reading (edged h k v g) (starts_at h)) (edges_read s) r
@@ -144,7 +142,7 @@ module _ (s : List ℕ) (h : Header) (eh : reading (counted h) 11 ≡ header_of 
           staged (edge_step s) (λ f. f.header.edges) 3 (edges_at h) (edged h k v) no_edges (nodes_read s) (nodes-staged (Ok v) vs) r (t (noded h k v) refl)
 
       module _ (g : EdgeTable) (gs : EdgesRead s (edges_at h) h.nodes h.edges (Ok g)) (n : ℕ) (en : n ≡ scheduled_of h.length h.nodes) where
-        pub starts-staged : (r : Result StartTable Refusal) → StartsRead s (starts_at h) h.length k v n r
+        pub starts-staged : (r : Result PlacedTable Refusal) → StartsRead s (starts_at h) h.length k v n r
             → Staged (λ x. reading (placed h k v g x) (starts_at h + 3 * n)) (starts_read s) r
         unfolding starts_read empty_form
         starts-staged r =
@@ -153,7 +151,7 @@ module _ (s : List ℕ) (h : Header) (eh : reading (counted h) 11 ≡ header_of 
             staged (start_step s) scheduled 3 (starts_at h) (placed h k v g) no_starts (edges_read s) (edges-staged (Ok g) gs) r (t (edged h k v g) refl refl refl))
 
         -- all tables read are what the definition reads
-        pub whole-read : (x : StartTable) → StartsRead s (starts_at h) h.length k v n (Ok x) → reading (placed h k v g x) (starts_at h + 3 * n) ≡ starts_read s
+        pub whole-read : (x : PlacedTable) → StartsRead s (starts_at h) h.length k v n (Ok x) → reading (placed h k v g x) (starts_at h + 3 * n) ≡ starts_read s
         whole-read x xs = starts-staged (Ok x) xs
 
 -- how far the tables reach

@@ -12,9 +12,7 @@ use Rattle.form.specs.Places.{no_class, no_node, no_step, empty_form, latency_of
 use Rattle.field.specs.Outcome.{Taken, Reads}
 use Rattle.field.specs.declared.Kind.TheVariants.{Mark, Version, Count}
 use Rattle.field.specs.Taking.{taken, onward}
-use Rattle.reader.specs.declared.EdgeTable.{EdgeTable}
-use Rattle.reader.specs.declared.StartTable.{StartTable}
-use Rattle.reader.specs.Outcome.{Reading}
+use Rattle.reader.specs.Outcome.{Reading, EdgeTable, PlacedTable, edge_table, placed_table}
 use Rattle.rows.specs.Rows.{class_at, node_at, edge_at, start_at}
 
 -- the mark "RSK" as one number of three bytes, version 1, then C, N, E and L
@@ -96,15 +94,25 @@ pub record Headed (s : List ℕ) (r : Result Header Refusal) : Type 0 where
 abbrev pub TableRead : {A : Type 0} → (ℕ → Reading → Reading) → ℕ → ℕ → ℕ → (A → Form) → A → Result A Refusal → Type 0
 TableRead step n width at made none = Staged (λ a. reading (made a) (at + width * n)) (table step n 0 (reading (made none) at))
 
--- each table, read into whatever form holds the counts
-abbrev pub ClassesRead : List ℕ → ℕ → ℕ → Result (List Class) Refusal → Type 0
-ClassesRead s at n r = (f : Form) → TableRead (class_step s) n 3 at (with_classes f) (replicate 4 no_class) r
+-- the tables of none, which each stage begins with
+abbrev pub no_classes : List Class
+no_classes = replicate 4 no_class
 
-abbrev pub NodesRead : List ℕ → ℕ → ℕ → ℕ → Result (List Node) Refusal → Type 0
-NodesRead s at classes n r = (f : Form) → f.header.classes ≡ classes → TableRead (node_step s) n 6 at (with_nodes f) (replicate 64 no_node) r
+abbrev pub no_nodes : List Node
+no_nodes = replicate 64 no_node
 
 abbrev pub no_edges : EdgeTable
-no_edges = record { from = replicate 256 0; to = replicate 256 0; delays = replicate 256 0 }
+no_edges = edge_table (replicate 256 0) (replicate 256 0) (replicate 256 0)
+
+abbrev pub no_starts : PlacedTable
+no_starts = placed_table (replicate 64 no_step) (replicate 64 0)
+
+-- each table, read into whatever form holds the counts
+abbrev pub ClassesRead : List ℕ → ℕ → ℕ → Result (List Class) Refusal → Type 0
+ClassesRead s at n r = (f : Form) → TableRead (class_step s) n 3 at (with_classes f) no_classes r
+
+abbrev pub NodesRead : List ℕ → ℕ → ℕ → ℕ → Result (List Node) Refusal → Type 0
+NodesRead s at classes n r = (f : Form) → f.header.classes ≡ classes → TableRead (node_step s) n 6 at (with_nodes f) no_nodes r
 
 abbrev pub with_edge_rows : Form → EdgeTable → Form
 with_edge_rows f t = with_edges f t.from t.to t.delays
@@ -112,12 +120,9 @@ with_edge_rows f t = with_edges f t.from t.to t.delays
 abbrev pub EdgesRead : List ℕ → ℕ → ℕ → ℕ → Result EdgeTable Refusal → Type 0
 EdgesRead s at nodes n r = (f : Form) → f.header.nodes ≡ nodes → TableRead (edge_step s) n 3 at (with_edge_rows f) no_edges r
 
-abbrev pub no_starts : StartTable
-no_starts = record { start = replicate 64 no_step; retiming = replicate 64 0 }
-
-abbrev pub with_start_rows : Form → StartTable → Form
+abbrev pub with_start_rows : Form → PlacedTable → Form
 with_start_rows f t = with_starts f t.start t.retiming
 
-abbrev pub StartsRead : List ℕ → ℕ → ℕ → List Class → List Node → ℕ → Result StartTable Refusal → Type 0
+abbrev pub StartsRead : List ℕ → ℕ → ℕ → List Class → List Node → ℕ → Result PlacedTable Refusal → Type 0
 StartsRead s at l ks ns n r =
     (f : Form) → f.header.length ≡ l → f.class ≡ ks → f.node ≡ ns → TableRead (start_step s) n 3 at (with_start_rows f) no_starts r

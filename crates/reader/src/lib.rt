@@ -5,30 +5,15 @@ ghost use Rattle.std.specs.Prelude.{◌≡◌, ◌+◌, ◌*◌, ◌≤◌, ◌<
 ghost use Rattle.lists.specs.Pick.{pick};
 ghost use Rattle.answer.specs.Outcome.{refusal_in};
 ghost use Rattle.answer.specs.declared.Refusal.TheVariants.{Retiming, Tail};
-ghost use Rattle.form.specs.Places.{no_class, scheduled_of};
+ghost use Rattle.form.specs.Places.{no_class, empty_form, scheduled_of};
 ghost use Rattle.form.specs.Offsets.{starts_at};
-ghost use Rattle.reader.specs.Outcome.{prefix_in, record_in};
-ghost use Rattle.reader.specs.Tables.{Headed, ClassesRead, NodesRead, EdgesRead, StartsRead};
+ghost use Rattle.reader.specs.Outcome.{edge_table, placed_table, table_in, front_in, prefix_in, record_in};
+ghost use Rattle.reader.specs.Tables.{Few, Headed, no_classes, no_nodes, no_edges, no_starts, ClassesRead, NodesRead, EdgesRead, StartsRead};
 ghost use Rattle.reader.specs.Reading.{normalized, TablesRead, prefix_of, read_form};
 
 use answer::Refusal;
 use field::Kind;
-use form::{BodyStep, Class, Form, Header, Node, Operation};
-
-// The edges' rows, a table for each of their fields.
-#[derive(Clone, Copy)]
-pub struct EdgeTable {
-    pub from: [u8; 256],
-    pub to: [u8; 256],
-    pub delays: [u8; 256],
-}
-
-// The starts and retimings.
-#[derive(Clone, Copy)]
-pub struct StartTable {
-    pub start: [BodyStep; 64],
-    pub retiming: [u8; 64],
-}
+use form::{BodyStep, Class, Form, Header, Node};
 
 // The record at the front of bytes: its form, and where it ends.
 #[derive(Clone, Copy)]
@@ -38,8 +23,8 @@ pub struct Front {
 }
 
 // A class's latency, 0 past the table.
-fn latency_of(class: [Class; 4], number: u8) -> u8
-    ensures { result ≡ (get_or class number no_class).latency }
+fn latency_of(class: &[Class; 4], number: u8) -> u8
+    ensures { result ≡ (get_or class.now number no_class).latency }
 {
     class.get(number as usize).map_or(0, |found| found.latency)
 }
@@ -63,91 +48,89 @@ fn header(s: &[u8]) -> Result<Header, Refusal>
     })
 }
 
-// The classes' rows.
-fn classes(s: &[u8], at: usize, count: u8) -> Result<[Class; 4], Refusal>
-    requires { (count ≤ 4) × (at ≤ 20000) }
-    ensures { ClassesRead s.now at count result }
+// The classes' rows, into a table of none.
+fn classes(s: &[u8], at: usize, count: u8, class: &mut [Class; 4]) -> Result<(), Refusal>
+    requires bounds { (count ≤ 4) × (at ≤ 20000) }
+    requires none { class.old ≡ no_classes }
+    ensures { ClassesRead s.now at count (table_in result class.new) }
 {
-    let mut class = [Class {
-        latency: 0,
-        units: 0,
-        pipelined: 0,
-    }; 4];
     for i in 0..count as usize {
         class[i] = rows::class_row(s, at + 3 * i)?;
     }
-    Ok(class)
+    Ok(())
 }
 
-// The nodes' rows.
-fn nodes(s: &[u8], at: usize, classes: u8, count: u8) -> Result<[Node; 64], Refusal>
-    requires { (count ≤ 64) × (at ≤ 20000) }
-    ensures { NodesRead s.now at classes count result }
+// The nodes' rows, into a table of none.
+fn nodes(s: &[u8], at: usize, classes: u8, count: u8, node: &mut [Node; 64]) -> Result<(), Refusal>
+    requires bounds { (count ≤ 64) × (at ≤ 20000) }
+    requires none { node.old ≡ no_nodes }
+    ensures { NodesRead s.now at classes count (table_in result node.new) }
 {
-    let mut node = [Node {
-        class: 0,
-        operation: Operation::Add(0),
-    }; 64];
     for i in 0..count as usize {
         node[i] = rows::node_row(s, at + 6 * i, classes)?;
     }
-    Ok(node)
+    Ok(())
 }
 
-// The edges' rows.
-fn edges(s: &[u8], at: usize, nodes: u8, count: u16) -> Result<EdgeTable, Refusal>
-    requires { (count ≤ 256) × (at ≤ 20000) }
-    ensures { EdgesRead s.now at nodes count result }
+// The edges' rows, into tables of none.
+fn edges(
+    s: &[u8],
+    at: usize,
+    header: Header,
+    from: &mut [u8; 256],
+    to: &mut [u8; 256],
+    delays: &mut [u8; 256],
+) -> Result<(), Refusal>
+    requires bounds { Few header × (at ≤ 20000) }
+    requires none { edge_table from.old to.old delays.old ≡ no_edges }
+    ensures { EdgesRead s.now at header.nodes header.edges (table_in result (edge_table from.new to.new delays.new)) }
 {
-    let mut from = [0u8; 256];
-    let mut to = [0u8; 256];
-    let mut delays = [0u8; 256];
-    for i in 0..count as usize {
-        let edge = rows::edge_row(s, at + 3 * i, nodes)?;
+    for i in 0..header.edges as usize {
+        let edge = rows::edge_row(s, at + 3 * i, header.nodes)?;
         from[i] = edge.from;
         to[i] = edge.to;
         delays[i] = edge.delays;
     }
-    Ok(EdgeTable { from, to, delays })
+    Ok(())
 }
 
-// The starts and retimings, `count` of them or none.
+// The starts and retimings of a schedule, into tables of none.
 fn starts(
     s: &[u8],
     at: usize,
-    length: u16,
-    class: [Class; 4],
-    node: [Node; 64],
-    count: usize,
-) -> Result<StartTable, Refusal>
-    requires { (count ≤ 64) × (length ≤ 512) × (at ≤ 20000) }
-    ensures { StartsRead s.now at length class node count result }
+    header: Header,
+    class: &[Class; 4],
+    node: &[Node; 64],
+    start: &mut [BodyStep; 64],
+    retiming: &mut [u8; 64],
+) -> Result<(), Refusal>
+    requires bounds { Few header × (at ≤ 20000) }
+    requires none { placed_table start.old retiming.old ≡ no_starts }
+    ensures { StartsRead s.now at header.length class.now node.now (scheduled_of header.length header.nodes) (table_in result (placed_table start.new retiming.new)) }
 {
-    let mut start = [BodyStep(0); 64];
-    let mut retiming = [0u8; 64];
+    let count = scheduled_nodes(header.length, header.nodes);
     for i in 0..count {
-        let place = node[i];
-        let latency = latency_of(class, place.class);
-        let row = rows::start_row(s, at + 3 * i, length, latency)?;
+        let latency = latency_of(class, node[i].class);
+        let row = rows::start_row(s, at + 3 * i, header.length, latency)?;
         start[i] = row.start;
         retiming[i] = row.retiming;
     }
-    Ok(StartTable { start, retiming })
+    Ok(())
 }
 
 // There is no schedule, or one of its retimings is 0.
 #[tactic(auto, using(std::proofs::lemmas::Grind::common_steps, std::proofs::lemmas::Bool::Decides::nat_tests, crate::proofs::Laws::zero_contained), unfolding(crate::specs::Reading::normalized, lists::specs::Pick::pick))]
-fn is_normalized(length: u16, nodes: u8, retiming: [u8; 64]) -> bool
+fn is_normalized(length: u16, nodes: u8, retiming: &[u8; 64]) -> bool
     requires { nodes ≤ 64 }
-    ensures { result ≡ normalized length nodes retiming }
+    ensures { result ≡ normalized length nodes retiming.now }
 {
     length == 0 || retiming[..nodes as usize].contains(&0)
 }
 
 // A schedule has a retiming 0.
-fn none_is_zero(header: Header, retiming: [u8; 64]) -> Result<(), Refusal>
+fn none_is_zero(header: Header, retiming: &[u8; 64]) -> Result<(), Refusal>
     requires { header.nodes ≤ 64 }
-    ensures { refusal_in result ≡ pick (normalized header.length header.nodes retiming) None (Some (Retiming (starts_at header + 2))) }
+    ensures { refusal_in result ≡ pick (normalized header.length header.nodes retiming.now) None (Some (Retiming (starts_at header + 2))) }
 {
     if is_normalized(header.length, header.nodes, retiming) {
         return Ok(());
@@ -180,49 +163,39 @@ fn scheduled_nodes(length: u16, nodes: u8) -> usize
     nodes as usize
 }
 
-// The header and the four tables at the front of the lent bytes, and where they end. A table is moved once: `?` would move it three times.
-fn tables(s: &[u8]) -> Result<Front, Refusal>
-    ensures { TablesRead s.now result }
+// The header and the four tables at the front of the lent bytes, into an empty form; where they end. Each table is read where it stays.
+#[tactic(auto, unfolding(form::specs::Places::empty_form))]
+fn tables(s: &[u8], form: &mut Form) -> Result<usize, Refusal>
+    requires { form.old ≡ empty_form }
+    ensures { TablesRead s.now (front_in result form.new) }
 {
     let header = header(s)?;
-    let class = classes(s, 11, header.classes)?;
+    form.header = header;
+    classes(s, 11, header.classes, &mut form.class)?;
     let nodes_at = 11 + 3 * header.classes as usize;
-    let node = match nodes(s, nodes_at, header.classes, header.nodes) {
-        Ok(node) => node,
-        Err(refusal) => return Err(refusal),
-    };
+    nodes(s, nodes_at, header.classes, header.nodes, &mut form.node)?;
     let edges_at = nodes_at + 6 * header.nodes as usize;
-    let EdgeTable { from, to, delays } = match edges(s, edges_at, header.nodes, header.edges) {
-        Ok(table) => table,
-        Err(refusal) => return Err(refusal),
-    };
+    edges(
+        s,
+        edges_at,
+        header,
+        &mut form.from,
+        &mut form.to,
+        &mut form.delays,
+    )?;
     let starts_at = edges_at + 3 * header.edges as usize;
-    let scheduled = scheduled_nodes(header.length, header.nodes);
-    let StartTable { start, retiming } = match starts(
+    starts(
         s,
         starts_at,
-        header.length,
-        class,
-        node,
-        scheduled,
-    ) {
-        Ok(table) => table,
-        Err(refusal) => return Err(refusal),
-    };
+        header,
+        &form.class,
+        &form.node,
+        &mut form.start,
+        &mut form.retiming,
+    )?;
+    let scheduled = scheduled_nodes(header.length, header.nodes);
     let end = starts_at + 3 * scheduled;
-    Ok(Front {
-        size: end,
-        form: Form {
-            header,
-            class,
-            node,
-            from,
-            to,
-            delays,
-            start,
-            retiming,
-        },
-    })
+    Ok(end)
 }
 
 // The record at the front of the lent bytes, or the first refusal; what is left past it is not looked at.
@@ -231,11 +204,10 @@ pub fn read_prefix(s: &[u8]) -> Result<Front, Refusal>
     ensures value { prefix_in result ≡ prefix_of s.now }
     ensures near { IfOk result (λ front. front.size ≤ 1367) }
 {
-    let read = tables(s);
-    if let Ok(front) = &read {
-        none_is_zero(front.form.header, front.form.retiming)?;
-    }
-    read
+    let mut form = Form::empty();
+    let size = tables(s, &mut form)?;
+    none_is_zero(form.header, &form.retiming)?;
+    Ok(Front { size, form })
 }
 
 // The record in the lent bytes, or the first refusal.
@@ -243,12 +215,9 @@ pub fn read_prefix(s: &[u8]) -> Result<Front, Refusal>
 pub fn read(s: &[u8]) -> Result<Form, Refusal>
     ensures { record_in result ≡ read_form s.now }
 {
-    match &tables(s) {
-        Ok(front) => {
-            none_is_zero(front.form.header, front.form.retiming)?;
-            tail(s, front.size)?;
-            Ok(front.form)
-        }
-        Err(refusal) => Err(*refusal),
-    }
+    let mut form = Form::empty();
+    let end = tables(s, &mut form)?;
+    none_is_zero(form.header, &form.retiming)?;
+    tail(s, end)?;
+    Ok(form)
 }

@@ -1,17 +1,18 @@
--- `plans::steps_of` meets its contract: each number is made a step.
+-- `plans::steps_of` meets its contract: the numbers passed are steps.
 -- Assumes nothing.
-use mathlib.Core.Path.{◌≡◌, ◌∙◌, sym, ap}
-use mathlib.Core.List.{map}
+use mathlib.Core.Path.{refl, ◌∙◌}
 use native.Mathlib.Omega.{arith}
-use lib.ListN.{length, get_or-map}
-use Rattle.std.proofs.lemmas.List.{length-map}
-use lib.Seq.{ext_get_or}
-use Rattle.form.specs.Places.{no_step}
-use Rattle.plans.specs.Pairs.{as_body_step}
+use borrow.Author.Rules.{rules}
+use Rattle.plans.proofs.Steps.{stepped-none, stepped-more, stepped-all}
 use Rattle.plans.proofs.steps_of.Goals as goal
+
+pub loop-v-init : goal.loop-v-init
+loop-v-init c = (omega arith, stepped-none _ _ refl)
+
+pub loop-v-preserved : goal.loop-v-preserved
+loop-v-preserved c =
+    (omega arith, stepped-more _ c.loop-v.v _ (omega arith) c.loop-v.invariant.1)
 
 pub returns : goal.returns
 returns c =
-    let long : length c.map.result ≡ length (map as_body_step c.args.start) = omega (arith, c.map.ensures.items.long, length-map c.args.start as_body_step) in
-    ext_get_or no_step c.map.result (map as_body_step c.args.start) long
-    (λ i l. ap as_body_step (c.map.ensures.items.at i 0 no_step (omega (arith, c.map.ensures.items.long))).2.met ∙ sym (get_or-map as_body_step c.args.start i 0))
+    c.loop-v.invariant.1 ∙ stepped-all _ c.loop-v.v (omega arith) (search rules)

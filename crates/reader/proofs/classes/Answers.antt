@@ -8,7 +8,7 @@ use Rattle.reader.proofs.Laws.{begin, turn, stop, finish}
 use Rattle.reader.proofs.classes.Goals as goal
 
 pub loop-i-init : goal.loop-i-init
-loop-i-init c = (search rules, λ f. begin)
+loop-i-init c = (search rules, λ f. rw c.requires.none begin)
 
 pub returns-in_err-class : goal.returns-in_err-class
 unfolding class_step

@@ -8,7 +8,7 @@ use Rattle.reader.proofs.Laws.{begin, turn, stop, finish}
 use Rattle.reader.proofs.edges.Goals as goal
 
 pub loop-i-init : goal.loop-i-init
-loop-i-init c = (search rules, search rules, search rules, λ f k. begin)
+loop-i-init c = (search rules, search rules, search rules, λ f k. rw c.requires.none begin)
 
 pub returns-in_err-edge : goal.returns-in_err-edge
 unfolding edge_step

@@ -3,6 +3,7 @@
 use mathlib.Core.Path.{◌≡◌}
 use lib.ListN.{length}
 use Rattle.form.specs.declared.Form.{Form}
+use Rattle.reader.specs.Outcome.{edge_table}
 use Rattle.reader.specs.Tables.{edge_step, with_edge_rows, no_edges}
 use Rattle.reader.proofs.Laws.{Going}
 use Rattle.reader.proofs.edges.Given as goal
@@ -12,4 +13,4 @@ invariant-loop-i l =
     (length l.from ≡ 256)
     × (length l.to ≡ 256)
     × (length l.delays ≡ 256)
-    × ((f : Form) → f.header.nodes ≡ l.nodes → Going (edge_step l.s) l.i-end 3 l.at (with_edge_rows f) no_edges l.i (record { from = l.from; to = l.to; delays = l.delays }))
+    × ((f : Form) → f.header.nodes ≡ l.header.nodes → Going (edge_step l.s) l.i-end 3 l.at (with_edge_rows f) no_edges l.i (edge_table l.from l.to l.delays))
