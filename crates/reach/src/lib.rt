@@ -64,9 +64,9 @@ fn mark(marks: &mut [u8; 64], queue: &mut [u8; 64], end: u8, head: u8, tight: u8
 }
 
 // The edges out of one node, along the links: each is met once.
-fn spread(marks: &mut [u8; 64], queue: &mut [u8; 64], node: u8, from: u8, ways: Ways) -> u8
-    requires { LinkedBy ways × Queued marks.old queue.old from × (node < 64) }
-    ensures { SpreadBy ways.entry node marks.old queue.old from marks.new queue.new result }
+fn spread(marks: &mut [u8; 64], queue: &mut [u8; 64], node: u8, from: u8, ways: &Ways) -> u8
+    requires { LinkedBy ways.now × Queued marks.old queue.old from × (node < 64) }
+    ensures { SpreadBy ways.now node marks.old queue.old from marks.new queue.new result }
 {
     let mut end = from;
     let mut e = ways.first[node as usize];
@@ -79,9 +79,9 @@ fn spread(marks: &mut [u8; 64], queue: &mut [u8; 64], node: u8, from: u8, ways: 
 }
 
 // One edge further: from the nodes that were reached last, at places `from` to `to` of the queue.
-fn level(marks: &mut [u8; 64], queue: &mut [u8; 64], from: u8, to: u8, ways: Ways) -> u8
-    requires { LinkedBy ways × Queued marks.old queue.old to × (from ≤ to) }
-    ensures { LevelledBy ways.entry from marks.old queue.old to marks.new queue.new result }
+fn level(marks: &mut [u8; 64], queue: &mut [u8; 64], from: u8, to: u8, ways: &Ways) -> u8
+    requires { LinkedBy ways.now × Queued marks.old queue.old to × (from ≤ to) }
+    ensures { LevelledBy ways.now from marks.old queue.old to marks.new queue.new result }
 {
     let mut end = to;
     for i in from..to {
@@ -92,9 +92,10 @@ fn level(marks: &mut [u8; 64], queue: &mut [u8; 64], from: u8, to: u8, ways: Way
 }
 
 // At most `left` edges further. A node joins the queue once, so that all levels together cost at most N + E steps.
-fn reach(marks: &mut [u8; 64], queue: &mut [u8; 64], from: u8, to: u8, ways: Ways, left: u8) -> u8
-    requires { LinkedBy ways × Queued marks.old queue.old to × (from ≤ to) }
-    ensures { ReachesBy ways.entry from left marks.old queue.old to marks.new queue.new result }
+// The ways are lent: by value each level would keep a copy of them on the stack.
+fn reach(marks: &mut [u8; 64], queue: &mut [u8; 64], from: u8, to: u8, ways: &Ways, left: u8) -> u8
+    requires { LinkedBy ways.now × Queued marks.old queue.old to × (from ≤ to) }
+    ensures { ReachesBy ways.now from left marks.old queue.old to marks.new queue.new result }
 {
     if left == 0 {
         return to;
@@ -107,9 +108,9 @@ fn reach(marks: &mut [u8; 64], queue: &mut [u8; 64], from: u8, to: u8, ways: Way
 }
 
 // How many other nodes node v reaches: as many as have joined the queue after it.
-fn weight_of(v: u8, nodes: u8, ways: Ways) -> u8
-    requires { (v < nodes) × (nodes ≤ 64) × LinkedBy ways }
-    ensures { (g : Loop) (r : ℕ → ℕ) → g.graph.nodes ≡ nodes → TightBy g r ways.entry → result ≡ weight g r v }
+fn weight_of(v: u8, nodes: u8, ways: &Ways) -> u8
+    requires { (v < nodes) × (nodes ≤ 64) × LinkedBy ways.now }
+    ensures { (g : Loop) (r : ℕ → ℕ) → g.graph.nodes ≡ nodes → TightBy g r ways.now → result ≡ weight g r v }
 {
     let mut marks = [0u8; 64];
     marks[v as usize] = 1;
@@ -135,7 +136,7 @@ pub fn weights(nodes: u8, edges: Edges, retiming: &[u8; 64]) -> [u8; 64]
     };
     let mut weights = [0u8; 64];
     for v in 0..nodes {
-        weights[v as usize] = weight_of(v, nodes, ways);
+        weights[v as usize] = weight_of(v, nodes, &ways);
     }
     weights
 }

@@ -11,7 +11,7 @@ loop-e-init c =
 
 pub loop-e-preserved : goal.loop-e-preserved
 loop-e-preserved c =
-    let inside : c.loop-e.e < c.args.ways.edges = omega arith in (
+    let inside : c.loop-e.e < c.args.ways.now.edges = omega arith in (
       c.requires.0.leads-in c.loop-e.e inside,
       c.mark-end.ensures.queued,
       omega (arith, c.mark-end.ensures.grows),
